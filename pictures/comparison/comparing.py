@@ -81,10 +81,12 @@ class Comparison:
     def tabled(self, picture, rule, version, text):
         """The table of a report that holds is the one of the picture alone: by the number 1 without the lengths of borders, as it does not fix them."""
         groups = self.draw.choice(tables.GROUPS)
-        given = self.program.run("measure", *groups, self.program.write("report", text))[0]
+        spacing = self.draw.choice((None, (1, 1, 1), (5, 5, 20), (1, 2, 3))) if picture.axes == 3 else None
+        asked = ("spacing", *map(str, spacing)) if spacing else ()
+        given = self.program.run("measure", *groups, *asked, self.program.write("report", text))[0]
         contours = shown.least_contours(picture) if picture.axes == 2 and version == 2 else None
-        wanted = tables.table(picture, rule, contours, groups)
-        self.agree(picture, "the table %s by %s of number %d" % (" ".join(groups), rule, version), given, wanted, text)
+        wanted = tables.table(picture, rule, contours, groups, spacing)
+        self.agree(picture, "the table %s by %s of number %d" % (" ".join(groups + asked), rule, version), given, wanted, text)
         self.files["tables"] += 1
 
     # ---- forged reports that hold

@@ -2,6 +2,8 @@
 
 Each is found from the points of one object; the thickness from the distances of the picture, as it needs the balls of the object.
 """
+from functools import lru_cache
+from itertools import permutations, product
 from math import isqrt
 
 import numpy as np
@@ -46,6 +48,46 @@ def surface(points):
             out = sum((p[0] + step[0], p[1] + step[1], p[2] + step[2]) not in inside for p in inside)
             total += WEIGHTS[sum(map(abs, step))] * out
     return nearest(total, 10 ** 11)
+
+
+# ---- surfaces of voxels that are not cubes
+
+# A fan of directions: on each face of a cube a lattice of so many points, by two Fibonacci numbers next to each other, and its mirror image.
+FAN, BEFORE = 10946, 6765
+
+
+@lru_cache
+def shares(spacing):
+    """The share of the directions of the fan that is nearest to each class of steps, in 10^-12; a direction that is as near to several is divided among them."""
+    steps = {used: tuple(u * a for u, a in zip(used, spacing)) for used in product((0, 1), repeat=3) if any(used)}
+    squares = {used: dot(step, step) for used, step in steps.items()}
+    parts = dict.fromkeys(steps, 0)
+    for i in range(FAN):
+        a, b = 2 * i + 1, (2 * BEFORE * i + 1) % (2 * FAN)
+        reach = (2 * FAN) ** 2 + a * a + b * b
+        angle = 10 ** 26 // reach // ((isqrt(4000000 * reach) + 1) // 2)
+        for u in permutations((2 * FAN, a, b)):
+            cosines = {used: dot(u, step) ** 2 for used, step in steps.items()}
+            best = [k for k in steps if all(cosines[k] * squares[j] >= cosines[j] * squares[k] for j in steps)]
+            for used in best:
+                parts[used] += angle * (420 // len(best))
+    return {used: 10 ** 12 * part // sum(parts.values()) for used, part in parts.items()}
+
+
+def dot(u, v):
+    return sum(a * b for a, b in zip(u, v))
+
+
+def spaced_surface(points, spacing):
+    """Crofton's formula, where a voxel has these sides: in thousandths of a square of their unit."""
+    inside = set(map(tuple, points.tolist()))
+    total = 0
+    for used, share in shares(spacing).items():
+        length = (isqrt(4000000 * 10 ** 8 * sum((u * a) ** 2 for u, a in zip(used, spacing))) + 1) // 2
+        weight = 40000 * spacing[0] * spacing[1] * spacing[2] * share // 2 ** (sum(used) - 1) // length
+        steps = [step for step in near_steps(3) if tuple(map(abs, step)) == used and step[::-1] < (0, 0, 0)]
+        total += weight * sum((p[0] + s[0], p[1] + s[1], p[2] + s[2]) not in inside for s in steps for p in inside)
+    return (total + 500000) // 1000000
 
 
 # ---- the convex hull of the corners of the pixels

@@ -15,7 +15,10 @@ FLAT = (
     "object,area,left,top,right,bottom,x,y,radius,cx,cy,skeleton,ends,junctions,touches,holes,border,hole_border,feret,from_x,from_y,to_x,to_y"
     ",euler,convex_area,convex_perimeter,min_feret,side_x,side_y,solidity,circularity"
 )
-SOLID = "object,voxels,x0,y0,z0,x1,y1,z1,x,y,z,radius,cx,cy,cz,skeleton,ends,junctions,touches,sides,euler,surface"
+SOLID = (
+    "object,voxels,x0,y0,z0,x1,y1,z1,x,y,z,radius,cx,cy,cz,skeleton,ends,junctions,touches,sides,euler,surface"
+)
+SOLID_FERET = ",feret,from_x,from_y,from_z,to_x,to_y,to_z"
 MOMENTS = {
     2: ",sum_x,sum_y,sum_xx,sum_xy,sum_yy,major,minor,axis_x,axis_y",
     3: ",sum_x,sum_y,sum_z,sum_xx,sum_xy,sum_yy,sum_xz,sum_yz,sum_zz",
@@ -24,18 +27,19 @@ THICKNESS = ",thickness,thickness_sd,thickness_max"
 GROUPS = ((), ("moments",), ("thickness",), ("moments", "thickness"))
 
 
-def table(picture, rule, contours, groups=()):
+def table(picture, rule, contours, groups=(), spacing=None):
     """The text of the table of a report by a rule, with some groups of columns.
 
     `contours` are those of a flat picture with the least lines of their segments, and None where a report does not tell these:
-    then the cells of lengths of borders, and what goes by them, are empty.
+    then the cells of lengths of borders, and what goes by them, are empty. Of a volume a `spacing`, the sides of a voxel, may be
+    asked for: then surfaces, volumes and Feret diameters go by it, and the cells of distances are empty.
     """
-    header = SOLID if picture.axes == 3 else FLAT
+    header = FLAT if picture.axes == 2 else SOLID + (",volume" if spacing else "") + SOLID_FERET
     if "moments" in groups:
         header += MOMENTS[picture.axes]
     if "thickness" in groups:
         header += THICKNESS
-    objects = Objects(picture, rule, contours)
+    objects = Objects(picture, rule, contours, spacing)
     rows = [[k + 1] + row(objects, part) + further(objects, part, groups) for k, part in enumerate(objects.each())]
     return "".join(text + "\n" for text in [header] + [",".join(map(str, cells)) for cells in rows]).encode()
 
@@ -49,7 +53,8 @@ def groups_of(text):
 class Objects:
     """The connected objects of a picture, by their first points in raster order; and of all points what the columns sum up."""
 
-    def __init__(self, picture, rule, contours):
+    def __init__(self, picture, rule, contours, spacing):
+        self.spacing = spacing
         self.picture, self.points = picture, np.array(picture.order, int).reshape(-1, picture.axes)
         left = picture.thinning(rule)[1]
         self.squares = picture.squares[picture.framed]
@@ -78,10 +83,11 @@ def beside(framed, steps):
 def row(objects, part):
     """The cells of an object, but those of the groups."""
     points = objects.points[part]
-    cells = place(points) + depth(points, objects.squares[part]) + skeleton(objects.near[part][objects.is_left[part]])
+    deep = [""] * 4 if objects.spacing else depth(points, objects.squares[part])
+    cells = place(points) + deep + skeleton(objects.near[part][objects.is_left[part]])
     cells.append(int((points == 0).any() or (points == np.array(objects.picture.sides) - 1).any()))
     if objects.picture.axes == 3:
-        return cells + [objects.sides[part].sum(), shapes.euler(points, 3), thousandths(shapes.surface(points))]
+        return cells + [objects.sides[part].sum(), shapes.euler(points, 3)] + surface(points, objects.spacing) + feret(points, objects.spacing)
     borders_told = lengths(objects.borders, points)
     return cells + [hole_count(points)] + borders_told + feret(points) + [shapes.euler(points, 2)] + hull(points) + [circularity(len(points), borders_told[0])]
 
@@ -96,7 +102,7 @@ def further(objects, part, groups):
             major, minor, x, y = shapes.ellipse(points)
             cells += [thousandths(major), thousandths(minor), x, y]
     if "thickness" in groups:
-        cells += map(thousandths, shapes.thickness_measures(objects.thicknesses[part]))
+        cells += [""] * 3 if objects.spacing else map(thousandths, shapes.thickness_measures(objects.thicknesses[part]))
     return cells
 
 
@@ -150,17 +156,26 @@ def lengths(borders, points):
     return [thousandths((n + UNIT // 2000) // (UNIT // 1000)) for n in totals]
 
 
-def feret(points):
+def surface(points, spacing):
+    """The surface; by the sides of a voxel, where they are asked for, and then the volume as well."""
+    if spacing is None:
+        return [thousandths(shapes.surface(points))]
+    return [thousandths(shapes.spaced_surface(points, spacing)), len(points) * spacing[0] * spacing[1] * spacing[2]]
+
+
+def feret(points, spacing=None):
     """The greatest distance of two points: the first point that has another at it, and the last one at it from there.
 
-    Such points are ends of rows, as no point of a row is as far from another as the farther of its ends.
+    Such points are ends of rows, as no point of a row is as far from another as the farther of its ends. A spacing gives the sides of a voxel.
     """
-    rows = points[:, 1]
-    is_end = np.append(True, rows[1:] != rows[:-1]) | np.append(rows[1:] != rows[:-1], True)
+    is_other = (points[1:, 1:] != points[:-1, 1:]).any(1)
+    is_end = np.append(True, is_other) | np.append(is_other, True)
     ends = points[is_end]
-    most = [int(((ends - p) ** 2).sum(1).max()) for p in ends]
+    sides = np.array(spacing or [1] * points.shape[1])
+    squares = lambda p: (((ends - p) * sides) ** 2).sum(1)
+    most = [int(squares(p).max()) for p in ends]
     first = ends[most.index(max(most))]
-    return [root(max(most)), *first, *ends[((ends - first) ** 2).sum(1) == max(most)][-1]]
+    return [root(max(most)), *first, *ends[squares(first) == max(most)][-1]]
 
 
 def hull(points):

@@ -13,10 +13,10 @@ from .batch import Image
 from .filters import Filters
 from .folder import Run
 from .labelled import total
-from .layout import REGION, evidence
+from .layout import REGION, evidence, key_of
 from .making import Record, record_of
 from .pictures import told_suffix
-from .plan import Wanted
+from .plan import Wanted, masks_of
 from .products import names_of
 from .report import counts_of, heading_of
 from .spacing import Spacing, measure_of
@@ -31,7 +31,7 @@ def run_again(made: dict[str, Any], records: dict[str, Record]) -> Run:
     for told in made["images"]:
         images.append(Image(Path(told["image"]), told["image"], records.get(told["record"]), told["failure"], told["sum"]))
     measure = measure_of(made["options"], (image.record for image in images if image.record))
-    return Run(made["options"], measure, images, {name: made[name] for name in _VERSIONS}, made.get("share"))
+    return Run(made["options"], measure, images, {name: made[name] for name in _VERSIONS}, made["subfolders"], made.get("share"))
 
 
 def record_again(record: Record, made: dict[str, Any], report: Path) -> Record:
@@ -40,8 +40,8 @@ def record_again(record: Record, made: dict[str, Any], report: Path) -> Record:
     parts, kept = counts_of(report)
     again = _again(record, made, {"sides": [int(side) for side in heading[3:-1]], "rule": heading[-1], "parts": parts, "kept": kept})
     suffix = told_suffix(again["sides"])
-    again["picture"] = again["files"][evidence(record["image"], suffix)]
-    again["region"] = again["files"].get(evidence(record["image"], f".{REGION}{suffix}"))
+    again["picture"] = again["files"][evidence(record["key"], suffix)]
+    again["region"] = again["files"].get(evidence(record["key"], f".{REGION}{suffix}"))
     return record_of(again)
 
 
@@ -56,10 +56,10 @@ def _again(record: Record, made: dict[str, Any], told: dict[str, Any]) -> Record
     """The members of a record, with what is told of it, and what the run's options and its own members give."""
     options = made["options"]
     again = {
-        **record, **told, "channel": options["channel"], "filters": asdict(Filters.told(options)), "plain": options["plain"], "drawn": not options["no_draw"], "kept_reports": not options["no_report"],
-        "masks": list(dict.fromkeys(options["masks"])), "wanted": Wanted.told(options, record["fit"], Spacing.recorded(record["spacing"])).record, "programs": made["programs"],
+        **record, **told, "key": key_of(record["image"], made["subfolders"]), "channel": options["channel"], "filters": asdict(Filters.told(options)), "plain": options["plain"], "drawn": not options["no_draw"], "kept_reports": not options["no_report"],
+        "masks": list(masks_of(options)), "wanted": Wanted.told(options, record["fit"], Spacing.recorded(record["spacing"])).record, "programs": made["programs"],
     }  # fmt: skip
     if record["cut"]:
         again["notes"] = [str(Cut(**record["cut"])), *record["notes"][1:]]
-    again["files"] = {name: record["files"].get(name, "its sum") for name in sorted(names_of(record["image"], again))}
+    again["files"] = {name: record["files"].get(name, "its sum") for name in sorted(names_of(again["key"], again))}
     return again

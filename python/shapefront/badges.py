@@ -2,7 +2,7 @@
 from __future__ import annotations
 
 from collections import Counter
-from collections.abc import Sequence
+from collections.abc import Iterable, Sequence
 from dataclasses import dataclass
 from typing import Any
 
@@ -18,13 +18,13 @@ class Badge:
     about: str
 
 
-def badges_of(record: dict[str, Any], records: Sequence[dict[str, Any]], areas: Sequence[int]) -> list[Badge]:
-    """The badges of an image, whose objects have these areas, among all of a run."""
+def badges_of(record: dict[str, Any], sides: Counter[str], areas: Sequence[int]) -> list[Badge]:
+    """The badges of an image, whose objects have these areas, in a run in which so many images have their objects on each side."""
     notes = record["notes"]
     found = [Badge("labels?", note) for note in notes if "if these are labels" in note]
     found += [Badge("uneven background", note) for note in notes if note.startswith("the background is uneven")]
     found += [Badge("not all used", note) for note in notes if "not used" in note]
-    if other := _other_side(record, records):
+    if other := _other_side(record, sides):
         found.insert(0, other)
     specks = sum(area <= SPECK for area in areas)
     if specks >= max(SPECKS, PART * len(areas)):
@@ -32,9 +32,13 @@ def badges_of(record: dict[str, Any], records: Sequence[dict[str, Any]], areas: 
     return found
 
 
-def _other_side(record: dict[str, Any], records: Sequence[dict[str, Any]]) -> Badge | None:
+def chosen_sides(records: Iterable[dict[str, Any]]) -> Counter[str]:
+    """In how many images the objects were found to be dark, and light."""
+    return Counter(one["cut"]["objects"] for one in records if _is_chosen(one))
+
+
+def _other_side(record: dict[str, Any], sides: Counter[str]) -> Badge | None:
     """A badge where the side of the objects was chosen, and is another one than in most images."""
-    sides = Counter(one["cut"]["objects"] for one in records if _is_chosen(one))
     if not _is_chosen(record) or len(sides) < 2 or sides[record["cut"]["objects"]] > sum(sides.values()) / 2:
         return None
     own = record["cut"]["objects"]

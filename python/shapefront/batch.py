@@ -51,13 +51,14 @@ def images_of(paths: Iterable[Path], is_volume: bool, base: Path | None = None) 
             files, passed = files + taken, passed + len(inside) - len(taken)
         else:
             files.append(path)
-    absolute = {Path(os.path.abspath(path)): path for path in files}
+    absolute = {os.path.abspath(path): path for path in files}
     if not absolute:
         return [], passed
-    below = os.path.abspath(base) if base else os.path.commonpath([file_of(path).parent for path in absolute])
-    if outside := next((shown_path for path, shown_path in absolute.items() if not path.is_relative_to(below)), None):
+    below = os.path.abspath(base) if base else os.path.commonpath({os.path.dirname(file_of(Path(path))) for path in absolute})
+    first = os.path.join(below, "")
+    if outside := next((path for place, path in absolute.items() if not place.startswith(first)), None):
         raise Fault("--base", f"{shown(outside)} does not lie below {shown(below)}", "name a folder that holds all images")
-    return [Image(shown_path, str(path.relative_to(below))) for path, shown_path in absolute.items()], passed
+    return [Image(path, place.removeprefix(first)) for place, path in absolute.items()], passed
 
 
 def run(images: list[Image], plan: Plan, convert: Convert, jobs: int) -> None:

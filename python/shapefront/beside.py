@@ -12,11 +12,11 @@ from .checking import Finding, Judge, check_report, picture_of, plain
 from .comparing import of_tables
 from .faults import Fault
 from .files import shown
-from .layout import part
+from .layout import OBJECTS, SPACED, WHOLE, part
 from .network import SKELETON
 from .parts import Again
 from .pictures import suffix_beside
-from .products import DRAWINGS, tables_words
+from .products import DRAWINGS, spaced_words, tables_words
 from .programs import NAME, call, sums
 from .report import text_of
 
@@ -82,17 +82,23 @@ def check_beside(report: Path, record: dict[str, Any], judge: Judge, drawing: Pa
             found = check_report(name, source, file, judge)
             if not found.holds:
                 return Beside(report, [(report, found)])
-            table = _table(file, bool(source.sides), stem.with_name(stem.name + ".csv"))
+            thickness = bool(source.sides) or record.get("wanted", {}).get("thickness", False)
+            table = _table(file, thickness, stem.with_name(stem.name + ".csv"))
             wrong = [(path, Finding(name, False, why)) for path, why in _wrong(stem, drawing, file, table, record)]
     except Fault as fault:
         return Beside(report, [(report, refused(name, fault))])
     return Beside(report, wrong or [(report, found)], table or b"")
 
 
-def _table(report: Path, is_solid: bool, own: Path) -> bytes | None:
-    """The table that the program makes of a report: that which lies there, where some of the words for it make it, else that of the first words."""
-    lying, tables = own.read_bytes() if own.is_file() else b"", [_made(words, report) for words in tables_words(is_solid)]
-    return next((table for table in tables if table == lying), next((table for table in tables if table is not None), None))
+def _table(report: Path, thickness: bool, own: Path) -> bytes | None:
+    """The table that the program makes of a report: that which lies there, where some of the words for it make it, else that of the words that come first."""
+    lying, tables = own.read_bytes() if own.is_file() else b"", []
+    has_thickness = b"thickness" in lying.partition(b"\n")[0]
+    for words in sorted(tables_words(thickness), key=lambda words: ("thickness" in words) != has_thickness):
+        tables.append(_made(words, report))
+        if tables[-1] == lying:
+            return lying
+    return next((table for table in tables if table is not None), None)
 
 
 def refused(name: str, fault: Fault) -> Finding:
@@ -121,8 +127,11 @@ def _not_made(words: tuple[tuple[str, ...], ...], path: Path, record: dict[str, 
 def _products(stem: Path, drawing: Path, record: dict[str, Any]) -> Iterator[tuple[tuple[tuple[str, ...], ...], Path]]:
     """The files that are made of a report, there or not, each with the words of which any may have made it."""
     yield (("measure",),), stem.with_name(stem.name + ".csv")
+    yield (("measure", "whole"),), stem.with_name(stem.name + WHOLE)
     yield DRAWINGS, drawing
     yield (("mask", "skeleton"),), part(stem, SKELETON, ".pbm")
+    if sides := record.get("wanted", {}).get("spacing"):
+        yield (spaced_words(sides),), stem.with_name(stem.name + SPACED[OBJECTS])
     for kind in record.get("masks", []):
         for name in {PurePosixPath(name).name for name in record.get("files", {})}:
             if name.startswith(f"{stem.name}.{kind}."):

@@ -83,8 +83,10 @@ def plain(text: bytes, report: Path) -> Iterator[Path]:
 
 
 def picture_of(stem: str, report: Path) -> Source:
-    """The picture beside a report: its name with .pbm, or with .XxYxZ.raw. A Fault where there is none, or more than one."""
-    name = re.compile(re.escape(stem) + r"(\.pbm|\.\d+x\d+x\d+\.raw)")
+    """The picture beside a report: its name with .pbm, or with .XxYxZ.raw. A Fault where there is none, or more than one volume."""
+    if (flat := report.with_name(stem + ".pbm")).is_file():
+        return Source.of(flat)
+    name = re.compile(re.escape(stem) + r"\.\d+x\d+x\d+\.raw")
     found = [path for path in report.parent.iterdir() if name.fullmatch(path.name)]
     if len(found) != 1:
         reason = f"{'several pictures lie' if found else 'no picture lies'} beside its report"

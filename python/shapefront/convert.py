@@ -145,6 +145,8 @@ def _cut(image: Grey, settings: Settings, fit: int) -> tuple[Cut, np.ndarray, np
     values, before = filters.before(small)
     cut = cut_of(replace(image, values=values), settings, image.values.dtype)
     own = cut.mask(values)
+    if settings.threshold is not None and (own.all() or not own.any()):
+        notes.append(f"{'every' if own.all() else 'no'} pixel is object: its values are {values.min():g} to {values.max():g}")
     mask, after = filters.after(own)
     if filters.background is None and (ends := unevenness(values, own)):
         notes.append("the background is uneven: in parts of the image its median goes from %g to %g, see --background" % ends)

@@ -18,8 +18,11 @@ from typing import IO, Any
 
 from .faults import Fault, Full
 
+# So many bytes of a file are read at once to sum them.
+_PIECE = 1 << 16
 # A text as JSON spells it.
 _quoted: Callable[[str], str] = getattr(json.encoder, "encode_basestring")
+_WORDS = {None: "null", True: "true", False: "false"}
 # How what is not finished is called, with the word of its run behind.
 ASIDE = ".making-"
 # The word of this run: that of no other, on whatever host.
@@ -48,9 +51,14 @@ def aside(path: Path) -> Iterator[IO[bytes]]:
             os.unlink(name)
 
 
+def is_full(error: OSError) -> bool:
+    """Whether an error says that there is no room on a disk."""
+    return error.errno in (errno.ENOSPC, errno.EDQUOT)
+
+
 def unwritten(path: object, error: OSError, remedy: str) -> Fault:
     """What it means that the system refuses to write a file: `Full` where there is no room."""
-    if error.errno in (errno.ENOSPC, errno.EDQUOT):
+    if is_full(error):
         return Full(path, f"cannot be written ({error.strerror})", "make room: the same command goes on where it was")
     return Fault(path, f"cannot be written ({error.strerror})", remedy)
 
@@ -100,12 +108,16 @@ def _spelled(value: Any, line: str) -> str:
     """The spelling of a value that stands behind a line's beginning."""
     if isinstance(value, str):
         return _quoted(value)
+    if value is None or type(value) is bool:
+        return _WORDS[value]
+    if type(value) is int:
+        return str(value)
     inner = line + " "
     if isinstance(value, dict) and value:
         return "{" + inner + ("," + inner).join([f"{_quoted(str(name))}: {_spelled(member, inner)}" for name, member in value.items()]) + line + "}"
     if isinstance(value, (list, tuple)) and value:
         return "[" + inner + ("," + inner).join([_spelled(member, inner) for member in value]) + line + "]"
-    return str(value) if type(value) is int else json.dumps(value)
+    return json.dumps(value)
 
 
 def write_json(path: Path, value: Any) -> None:
@@ -128,14 +140,17 @@ def parsed(data: bytes) -> Any:
         return None
 
 
-def sum_of(path: Path) -> str | None:
+def sum_of(path: Path | str) -> str | None:
     """The SHA-256 sum of a file, and None where it cannot be read."""
     try:
-        with open(path, "rb", 0) as file:
-            own = hashlib.sha256()
-            while data := file.read(1 << 20):
+        number = os.open(path, os.O_RDONLY | os.O_CLOEXEC)
+        try:
+            own, piece = hashlib.sha256(), min(os.fstat(number).st_size + 1, _PIECE)
+            while data := os.read(number, piece):
                 own.update(data)
             return own.hexdigest()
+        finally:
+            os.close(number)
     except OSError:
         return None
 

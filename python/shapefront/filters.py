@@ -43,10 +43,10 @@ class Filters:
         notes = []
         if self.background is not None:
             values = _rounded(values - _blurred(values, self.background), values.dtype, np.int64)
-            notes.append(f"background taken off: the Gaussian mean of {self.background:g} pixels; the threshold is on the differences")
+            notes.append(f"background taken off: the Gaussian mean of {self.background:g} {_points(values)}; the threshold is on the differences")
         if self.smooth is not None:
             values = _rounded(_blurred(values, self.smooth), values.dtype, values.dtype)
-            notes.append(f"smoothed by a Gaussian of {self.smooth:g} pixels")
+            notes.append(f"smoothed by a Gaussian of {self.smooth:g} {_points(values)}")
         return values, tuple(notes)
 
     def after(self, mask: np.ndarray) -> tuple[np.ndarray, tuple[str, ...]]:
@@ -54,7 +54,7 @@ class Filters:
         notes = []
         if self.fill_holes:
             filled = ~holes_of(mask, with_outside=True)
-            notes.append(f"holes filled: {int((filled & ~mask).sum())} pixels")
+            notes.append(f"holes filled: {int((filled & ~mask).sum())} {_points(mask)}")
             mask = filled
         if self.exclude_border or self.min_size is not None:
             objects = numbered(mask, by_corners=True)
@@ -64,23 +64,27 @@ class Filters:
             if self.min_size is not None:
                 sizes = np.bincount(objects[mask], minlength=1)
                 mask, count = _without(mask, objects, np.flatnonzero((sizes > 0) & (sizes < self.min_size)))
-                notes.append(f"left out as they have fewer than {self.min_size} pixels: {_count(count)}")
+                notes.append(f"left out as they have fewer than {self.min_size} {_points(mask)}: {_count(count)}")
         return mask, tuple(notes)
-
 
     def on_labels(self, labels: np.ndarray) -> tuple[np.ndarray, tuple[str, ...]]:
         """A label image with the same done to each label by itself: its holes filled where they have no label, and labels left out."""
         notes: list[str] = []
         if self.fill_holes:
             labels, count = _filled(labels)
-            notes.append(f"holes of labels filled: {count} pixels")
+            notes.append(f"holes of labels filled: {count} {_points(labels)}")
         if self.exclude_border:
             labels, notes = _unlabelled(labels, _on_border(labels), "they touch the border", notes)
         if self.min_size is not None:
             values, sizes = np.unique(labels, return_counts=True)
             small = values[(values > 0) & (sizes < self.min_size)]
-            labels, notes = _unlabelled(labels, small, f"they have fewer than {self.min_size} pixels", notes)
+            labels, notes = _unlabelled(labels, small, f"they have fewer than {self.min_size} {_points(labels)}", notes)
         return labels, tuple(notes)
+
+
+def _points(array: np.ndarray) -> str:
+    """What the points of an image are called."""
+    return "pixels" if array.ndim == 2 else "voxels"
 
 
 def _on_border(numbers: np.ndarray) -> np.ndarray:

@@ -17,10 +17,11 @@ from .batch import Image, source_sum
 from .faults import Fault
 from .files import encoded, make_folder, spelled_json, sum_of_bytes, write, write_json
 from .images import pillow_version
-from .layout import FURTHER, JOINED, MADE, OBJECTS, PAGE, PICTURES, SUMMARY, WORKBOOK, evidence, record_of_key
+from .layout import FURTHER, JOINED, MADE, OBJECTS, PAGE, PICTURES, SPACED, SUMMARY, WORKBOOK, evidence, record_of_key
 from .making import Record
 from .page import Page, Shown, jinja_version, page_version
 from .pictures import told_sides
+from .plan import Plan
 from .programs import sums
 from .scans.kinds import file_of
 from .seals import sealed
@@ -33,12 +34,14 @@ from .workbook import MOST_CELLS, workbook, workbook_version
 
 @dataclass(frozen=True)
 class Run:
-    """A run: its options, the pixel's size, what became of its images, the versions of what made it, and which share of how many it is, if it is one."""
+    """A run: its options, the pixel's size, what became of its images, the versions of what made it, whether its pictures lie in subfolders, and which share
+    of how many it is, if it is one."""
 
     options: dict[str, Any]
     pixel: Pixel | InUnit | None
     images: list[Image]
     versions: dict[str, Any]
+    subfolders: bool = False
     share: dict[str, int] | None = None
 
     @property
@@ -82,24 +85,25 @@ class Run:
         for record in self.records:
             files |= _files(record)
         return sealed({
-            **self.versions, "options": self.options, "pixel": self.pixel.record if self.pixel else None,
+            **self.versions, "options": self.options, "pixel": self.pixel.record if self.pixel else None, "subfolders": self.subfolders,
             **({"share": self.share, "traits": Traits.of(self.records, table).record} if self.share else {}),
             "images": [_told(image) for image in self.images], "files": dict(sorted(files.items())),
         })  # fmt: skip
 
 
-def finish(folder: Path, images: list[Image], options: dict[str, Any], share: dict[str, int] | None = None) -> dict[str, Any]:
-    """Writes the tables, the summary and the record of a run, of a share the record alone; the record. A Fault where the folder cannot be written."""
-    run = Run(options, measure_of(options, (image.record for image in images if image.record)), images, versions(), share)
+def finish(plan: Plan, images: list[Image], share: dict[str, int] | None = None) -> dict[str, Any]:
+    """Writes the tables, the summary and the record of a run by this plan, of a share the record alone; the record. A Fault where the folder cannot be written."""
+    folder, options = plan.folder, plan.options
+    run = Run(options, measure_of(options, (image.record for image in images if image.record)), images, versions(), plan.subfolders, share)
 
     def table(record: Record, suffix: str) -> str:
-        return read_table(folder / evidence(record["image"], suffix))
+        return read_table(folder / evidence(record["key"], suffix))
 
     files = run.of_all(table)
     if files and (book := run.workbook(files)):
         files[WORKBOOK] = book
     if files and jinja_version():
-        files[PAGE] = run.page(files, files, lambda record, suffix: _bytes(folder / evidence(record["image"], suffix)))
+        files[PAGE] = run.page(files, files, lambda record, suffix: _bytes(folder / evidence(record["key"], suffix)))
     for name, data in files.items():
         write(folder / name, data)
     for name in {*JOINED, PAGE, WORKBOOK} - files.keys():
@@ -127,12 +131,12 @@ def versions() -> dict[str, Any]:
 def _told(image: Image) -> dict[str, Any]:
     record = image.record
     threshold = record["cut"]["threshold"] if record and record["cut"] else None
-    return {"image": image.name, "sum": image.source, "threshold": threshold, "record": record and record_of_key(record["image"]), "failure": image.failure}
+    return {"image": image.name, "sum": image.source, "threshold": threshold, "record": record and record_of_key(record["key"]), "failure": image.failure}
 
 
 def _files(record: Record) -> dict[str, str]:
     """The sums of a picture's files and of its record, by their names in the folder of the run."""
-    return {**record["files"], record_of_key(record["image"]): sum_of_bytes(spelled_json(record))}
+    return {**record["files"], record_of_key(record["key"]): sum_of_bytes(spelled_json(record))}
 
 
 def part_of(record: Record, table: Table, name: str, pixel: Pixel | InUnit | None) -> Part | None:
@@ -142,7 +146,9 @@ def part_of(record: Record, table: Table, name: str, pixel: Pixel | InUnit | Non
     further = FURTHER.get(name)
     rest = table(record, further) if further and has(record, further) else None
     size = pixel.size_of(record) if isinstance(pixel, InUnit) else None
-    return Part(record["image"], record["fit"], record["original"], table(record, JOINED[name]), rest, size)
+    spaced = SPACED.get(name)
+    told = table(record, spaced) if spaced and has(record, spaced) else None
+    return Part(record["image"], record["fit"], record["original"], table(record, JOINED[name]), rest, size, told)
 
 
 def joined(parts: Iterable[Part], joint: Joint) -> Iterator[Row]:
@@ -209,9 +215,18 @@ def _size(record: Record, pixel: Pixel | InUnit | None) -> Iterator[str]:
         yield f"a pixel of this picture is {replace(pixel, size=pixel.size * record['fit'])} wide"
     spacing = Spacing.recorded(record["spacing"])
     if spacing and not spacing.is_cubic:
-        yield "its voxels are no cubes: volumes and places are told in the unit, lengths and areas are not, and those in voxels take them for cubes; --cubes makes cubes"
+        yield f"its voxels are no cubes: {_in_unit(record, spacing)}, and those in voxels take them for cubes; --cubes makes cubes"
     if spacing and record["fit"] > 1:
         yield f"a voxel of this picture is {spacing.by(record['fit'])}"
+
+
+def _in_unit(record: Record, spacing: Spacing) -> str:
+    """What is told in the unit of a volume whose voxels are no cubes, in words."""
+    if spacing.unit is None:
+        return "lengths and areas are told where a unit is given"
+    if spacing.in_whole and has(record, SPACED[OBJECTS]):
+        return f"volumes, places, surfaces and Feret diameters are told in the unit (by sides of {spacing.in_whole}), radii and thickness are not"
+    return "volumes and places are told in the unit, lengths and areas are not"
 
 
 def told_failures(failures: Sequence[str]) -> Iterator[str]:

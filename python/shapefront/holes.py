@@ -5,7 +5,7 @@ Objects that touch at a corner are one, and holes are not. So holes that touch a
 from __future__ import annotations
 
 from collections import defaultdict
-from collections.abc import Sequence
+from collections.abc import Iterator, Sequence
 from dataclasses import dataclass
 from decimal import Decimal
 
@@ -76,12 +76,22 @@ def _ends_in_rows(mask: np.ndarray) -> tuple[np.ndarray, ...]:
 def _layers(numbers: np.ndarray, count: int) -> list[int]:
     """For each hole the number of a picture, the least that has no earlier hole that touches it at a corner."""
     beside = defaultdict(set)
-    for one, other in ((numbers[:-1, :-1], numbers[1:, 1:]), (numbers[:-1, 1:], numbers[1:, :-1])):
-        touch = (one > 0) & (other > 0) & (one != other)
-        for pair in np.unique(np.sort(np.stack([one[touch], other[touch]]), 0), axis=1).T.tolist():
-            beside[pair[1]].add(pair[0])
+    for one, other in _touching(numbers):
+        beside[max(one, other)].add(min(one, other))
     layers: list[int] = []
     for k in range(1, count + 1):
-        taken = {layers[other - 1] for other in beside[k]}
+        taken = {layers[other - 1] for other in beside[k]} if k in beside else ()
         layers.append(next(layer for layer in range(len(taken) + 1) if layer not in taken))
     return layers
+
+
+def _touching(numbers: np.ndarray) -> Iterator[tuple[int, int]]:
+    """The pairs of numbers of holes that touch at a corner, some of them several times."""
+    width = numbers.shape[1]
+    flat = np.concatenate([numbers.ravel(), np.zeros(width + 1, numbers.dtype)])
+    places = np.flatnonzero(flat)
+    for away, at_side in ((width + 1, width - 1), (width - 1, 0)):
+        own = places[places % width != at_side]
+        one, other = flat[own], flat[own + away]
+        touch = (other > 0) & (one != other)
+        yield from zip(one[touch].tolist(), other[touch].tolist())

@@ -39,7 +39,9 @@ def _chain(numbers: np.ndarray, t: np.ndarray, v: np.ndarray) -> Iterator[list[t
 
 def _beside(values: np.ndarray) -> tuple[np.ndarray, np.ndarray]:
     """For each value the one before it and the one after it; 0 where there is none."""
-    return np.append(0, values[:-1])[: len(values)], np.append(values[1:], 0)[: len(values)]
+    before, after = np.zeros_like(values), np.zeros_like(values)
+    before[1:], after[:-1] = values[:-1], values[1:]
+    return before, after
 
 
 def _width(corners: list[tuple[int, int]]) -> Decimal:

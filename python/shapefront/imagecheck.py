@@ -83,25 +83,25 @@ class ImageCheck:
 
     def _of_picture(self, picture: Picture, record: Record) -> str | None:
         """Where a picture of the image is not the one of the record, in words."""
-        head = head_of(picture, Plan.told(self.folder, self.made["options"]))
+        head = head_of(picture, Plan.told(self.folder, self.made["options"], subfolders=self.made["subfolders"]))
         unknown = ("intensities",) if self._lacks_values else ()
         made = {name: value for name, value in head.items() if name not in ("programs", "picture", "grey", *unknown)}
         made["notes"] = [*made["notes"], *(record["notes"][-1:] if self._lacks_values else [])]
         if why := of_members({name: record.get(name) for name in made}, made, "its record"):
             return why.replace("the reports and tables give", "the image gives")
         if head["picture"] != record["picture"]:
-            return self._of_pixels(picture)
+            return self._of_pixels(picture, record)
         if self._lacks_values:
             return None
         if head["grey"] != record["grey"]:
             return self._of_intensities(picture, record) or "its values outside of the objects are others than those that were measured"
         return self._of_intensities(picture, record)
 
-    def _of_pixels(self, picture: Picture) -> str:
+    def _of_pixels(self, picture: Picture, record: Record) -> str:
         """How a picture of the image is not the one in the folder."""
         if picture.labels is not None:
             return "its labels are others than those that were measured"
-        path = self.folder / evidence(picture.image, suffix_of(picture.mask))
+        path = self.folder / evidence(record["key"], suffix_of(picture.mask))
         try:
             data = path.read_bytes()
             own = pbm_mask(data) if picture.mask.ndim == 2 else np.frombuffer(data, np.uint8).reshape(picture.mask.shape) > 0
@@ -111,7 +111,7 @@ class ImageCheck:
 
     def _of_intensities(self, picture: Picture, record: Record) -> str | None:
         """Where the grey values of the objects, as they lie in the folder, are not those of the image."""
-        path = self.folder / evidence(record["image"], FURTHER["objects.csv"])
+        path = self.folder / evidence(record["key"], FURTHER["objects.csv"])
         if picture.grey is None or not path.is_file():
             return None
         again, own = spelled_rows(intensities(picture)), path.read_bytes()

@@ -12,14 +12,15 @@ from .files import sum_of
 
 def lying(folder: Path, passed: str = "") -> list[str]:
     """The names, below the folder, of all that lies in it but folders with something in them; not of what begins with a point, nor of the folder `passed`."""
-    names = []
-    for place, folders, files in os.walk(folder, onerror=_refused):
-        folders[:] = [name for name in folders if not name.startswith(".") and (name != passed or Path(place) != folder)]
+    names, top = [], str(folder)
+    for place, folders, files in os.walk(top, onerror=_refused):
+        below = "" if place == top else os.path.relpath(place, top) + "/"
+        folders[:] = [name for name in folders if not name.startswith(".") and (name != passed or below)]
         links = [name for name in folders if os.path.islink(os.path.join(place, name))]
         own = [name for name in files if not name.startswith(".")] + links
-        if not own and not folders and Path(place) != folder:
-            names.append(str(Path(place).relative_to(folder)))
-        names += [str(Path(place, name).relative_to(folder)) for name in own]
+        if not own and not folders and below:
+            names.append(below[:-1])
+        names += [below + name for name in own]
     return sorted(names)
 
 

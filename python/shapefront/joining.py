@@ -14,7 +14,7 @@ from .faults import Fault
 from .files import encoded, make_folder, shown, sum_of_bytes, write, write_json
 from .folder import heading, part_of, pictures, read_table, told_failures, told_picture, versions
 from .hands import MARK
-from .layout import JOINED, MADE, OBJECTS, PAGE, PICTURES, SUMMARY, WORKBOOK, evidence, record_of_key
+from .layout import JOINED, MADE, OBJECTS, PAGE, PICTURES, SUMMARY, WORKBOOK, evidence, key_of, record_of_key
 from .page import MOST_PICTURES, MOST_ROWS, Page, jinja_version
 from .seals import opened, sealed
 from .shares import SHARES, shares_in
@@ -30,7 +30,7 @@ from .workbook import MOST_CELLS, workbook
 class Shares:
     """The shares of a run that lie in a folder: what all of them say alike, what the record of all says of each, the images that were measured with the
     numbers of their shares, in order, the failures of the others, and what all records have in common. `of` is how many shares there are, `given`
-    of how many images the greatest number of them was told."""
+    of how many images the greatest number of them was told, and `subfolders` tells of each share whether its pictures lie in such."""
 
     folder: Path
     like: dict[str, Any]
@@ -40,6 +40,7 @@ class Shares:
     traits: Traits
     of: int
     given: int
+    subfolders: dict[int, bool]
 
     @classmethod
     def of_folder(cls, folder: Path) -> Shares:
@@ -50,6 +51,7 @@ class Shares:
         failures: list[str] = []
         traits: list[Traits] = []
         of = given = 0
+        subfolders: dict[int, bool] = {}
         for number, place in shares_in(folder):
             data = _bytes(place / MADE)
             if data is None or (place / MARK).exists():
@@ -63,11 +65,12 @@ class Shares:
             images += [(image["image"], number) for image in made["images"] if image["record"]]
             failures += failed
             traits.append(Traits.told(made["traits"]))
+            subfolders[number] = made["subfolders"]
             of, given = made["share"]["of"], max(given, made["share"]["given"])
         if not told:
             raise Fault(shown(folder), "no share is in this folder", "shapes measure --share K/N IMAGES -o FOLDER makes them")
         images.sort(key=_order)
-        return cls(folder, like, told, images, failures, Traits.joined(traits), of, given)
+        return cls(folder, like, told, images, failures, Traits.joined(traits), of, given, subfolders)
 
     @property
     def missing(self) -> list[int]:
@@ -96,14 +99,14 @@ class Shares:
 
     def record(self, name: str, number: int) -> Record:
         """The record of a picture. A Fault where it is not as it was written."""
-        path = self.place(number) / record_of_key(name)
+        path = self.place(number) / record_of_key(key_of(name, self.subfolders[number]))
         record = opened(_bytes(path) or b"")
         if record is None:
             raise Fault(shown(path), "it is missing, or not as it was written", f"measure its share again: --share {number}/{self.of}")
         return record
 
     def table(self, number: int, record: Record, suffix: str) -> str:
-        return read_table(self.place(number) / evidence(record["image"], suffix))
+        return read_table(self.place(number) / evidence(record["key"], suffix))
 
     def names(self) -> list[str]:
         """The names of the tables that are joined, and of the summary."""
@@ -133,7 +136,7 @@ class Shares:
         images: list[tuple[str, Record | None, str | None]] = [(name, self.record(name, number), None) for name, number in first]
         return Page(
             images, self.like["options"], self.pixel, {**versions(), "programs": self.like["programs"]}, [*self.lacks(), *self.traits.warnings()], list(files), rows,
-            lambda record, suffix: _bytes(places[record["image"]] / evidence(record["image"], suffix)),
+            lambda record, suffix: _bytes(places[record["image"]] / evidence(record["key"], suffix)),
             self.rows("volumes.csv"), {name: f"{SHARES}/{number}/" for name, number in first}, self.count, all_rows,
         ).spelled()  # fmt: skip
 

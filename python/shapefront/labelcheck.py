@@ -12,7 +12,7 @@ from .beside import Beside, check_beside, wrong_in_parts
 from .checking import Judge, picture_of
 from .faults import Fault
 from .labels import Box, tables
-from .layout import part
+from .layout import OBJECTS, SPACED, part
 from .parts import Again, names_in, tables_of
 from .parts import suffixes_of as part_suffixes
 from .pictures import pbm_mask
@@ -47,12 +47,12 @@ class Labels:
         reports = [folder / f"{label}.report" for label, *_ in record["labels"]]
         if wrong:
             return cls(wrong, reports, {})
-        return cls(wrong, reports, tables(own, record["sides"], lambda box, suffix: made.get((box.label, suffix), b"").decode(), tables_of(Wanted.of(record), len(record["sides"]) == 2)))
+        return cls(wrong, reports, tables(own, record["sides"], lambda box, suffix: made.get((box.label, suffix), b"").decode(), tables_of(Wanted.of(record), len(record["sides"]) == 2), Wanted.of(record).spacing))
 
 
 def _label(stem: Path, record: dict[str, Any], judge: Judge) -> tuple[list[str], Again | None]:
     """Why what lies there of a label is wrong; and where its reports hold, the pictures of its parts and its tables."""
-    names = names_in(stem, (path.name for path in stem.parent.iterdir()))
+    names = names_in(path.name for path in stem.parent.iterdir()).get(stem.name, [])
     besides = [_beside(one.with_name(one.name + ".report"), record, judge) for one in (stem, *(part(stem, name, "") for name in names))]
     whys = [finding.why for beside in besides for _, finding in beside.findings if not finding.holds]
     if whys:
@@ -61,7 +61,9 @@ def _label(stem: Path, record: dict[str, Any], judge: Judge) -> tuple[list[str],
         again = Again.of(stem, Wanted.of(record), {name: beside.table.decode() for name, beside in zip(names, besides[1:])})
     except Fault as fault:
         return [fault.reason], None
-    return [finding.why for _, finding in wrong_in_parts(stem, again)], Again(again.pictures, {".csv": besides[0].table, **again.tables})
+    spaced = stem.with_name(stem.name + SPACED[OBJECTS])
+    own = {SPACED[OBJECTS]: spaced.read_bytes()} if spaced.is_file() else {}
+    return [finding.why for _, finding in wrong_in_parts(stem, again)], Again(again.pictures, {".csv": besides[0].table, **own, **again.tables})
 
 
 def _beside(report: Path, record: dict[str, Any], judge: Judge) -> Beside:

@@ -12,14 +12,16 @@ from .archives import SUFFIX as ARCHIVE
 from .archives import pack
 from .convert import Picture
 from .labels import Box, boxes, tables
+from .layout import THICKNESS
 from .overlay import Border, Overlay, borders, coloured, numbers
 from .parts import tables_of
 from .pictures import sides_of
 from .plan import Plan
-from .products import evidence_of, write_shown, write_solid_shown
+from .products import evidence_of, mask_suffix, write_shown, write_solid_shown
 from .report import counts_of
 from .solidviews import Solid
 from .tables import dicts_of
+from .thickness import can_draw, drawing, widths_in
 
 
 def make_labels(picture: Picture, plan: Plan, stem: Path) -> dict[str, Any]:
@@ -28,7 +30,10 @@ def make_labels(picture: Picture, plan: Plan, stem: Path) -> dict[str, Any]:
     with tempfile.TemporaryDirectory(dir=stem.parent) as place:
         folder = Path(place)
         reports = [evidence_of(box.mask, folder / str(box.label), plan, wanted, f"{picture.image}, label {box.label}") for box in own]
-        made = tables(own, sides, lambda box, suffix: _text(folder / f"{box.label}{suffix}"), tables_of(wanted, picture.labels.ndim == 2))
+        made = tables(own, sides, lambda box, suffix: _text(folder / f"{box.label}{suffix}"), tables_of(wanted, picture.labels.ndim == 2), wanted.spacing)
+        if plan.draws and "thickness" in plan.masks and can_draw():
+            widths = _widths(own, sides, folder)
+            stem.with_name(stem.name + THICKNESS).write_bytes(drawing(widths, plan.pixel(picture.fit, picture.spacing)))
         if plan.keeps:
             pack(folder, stem.with_name(stem.name + ARCHIVE))
         for suffix, table in made.items():
@@ -43,6 +48,16 @@ def make_labels(picture: Picture, plan: Plan, stem: Path) -> dict[str, Any]:
             write_solid_shown(Solid(picture.mask, picture.original, picture.fit, picture.spacing), None, stem)
         counts = [counts_of(report) for report in reports]
     return {"parts": total([parts for parts, _ in counts]), "kept": total([kept for _, kept in counts])}
+
+
+def _widths(own: Sequence[Box], sides: Sequence[int], folder: Path) -> np.ndarray:
+    """The thickness of all labels in one mask as large as the image, which has these sides."""
+    whole = np.zeros([side + 2 for side in reversed(sides)], np.uint16)
+    for box in own:
+        path = folder / f"{box.label}{mask_suffix('thickness', sides_of(box.mask))}"
+        place = tuple(slice(at + 1, at + 1 + side) for at, side in zip(reversed(box.place), box.mask.shape))
+        whole[place] = np.maximum(whole[place], widths_in(path, sides_of(box.mask)))
+    return whole[(slice(1, -1),) * whole.ndim]
 
 
 def _rows_in(labels: np.ndarray) -> np.ndarray:

@@ -11,14 +11,16 @@ from decimal import ROUND_HALF_UP, Decimal
 
 import numpy as np
 
-from .layout import HOLES
+from .layout import HOLES, OBJECTS, SPACED
 from .places import moved
 from .tables import Row, rows_of, spelled_rows
 
-_SUMS = ("area", "voxels", "skeleton", "ends", "junctions", "holes", "border", "hole_border", "sides", "euler", "surface")
+_SUMS = ("area", "voxels", "skeleton", "ends", "junctions", "holes", "border", "hole_border", "sides", "euler", "surface", "volume")
 _LEAST, _GREATEST = ("left", "top", "x0", "y0", "z0"), ("right", "bottom", "x1", "y1", "z1")
 _DEEPEST = ("radius", "cx", "cy", "cz")
-_FERET = ("feret", "from_x", "from_y", "to_x", "to_y")
+_FERET = {2: ("feret", "from_x", "from_y", "to_x", "to_y"), 3: ("feret", "from_x", "from_y", "from_z", "to_x", "to_y", "to_z")}
+# How many points at once are compared with all others.
+_AT_ONCE = 256
 _CENTROID = ("x", "y", "z")
 
 
@@ -61,16 +63,16 @@ def header_of(table: str) -> Row:
     return ["label", "pieces", *rows_of(table)[0][1:]]
 
 
-def row_of(box: Box, table: str, sides: Sequence[int]) -> Row:
-    """The row of a label, by the table of its picture, which has a row for each piece; the image has these sides."""
+def row_of(box: Box, table: str, sides: Sequence[int], voxel: Sequence[int] | None = None) -> Row:
+    """The row of a label, by the table of its picture, which has a row for each piece; the image has these sides. Lengths are by those of a voxel, where they are given."""
     names, *pieces = rows_of(table)
     columns = {name: [piece[k] for piece in pieces] for k, name in enumerate(names)}
-    own = {name: values[0] for name, values in columns.items()} if len(pieces) == 1 else _together(box, columns)
+    own = {name: values[0] for name, values in columns.items()} if len(pieces) == 1 else _together(box, columns, voxel or (1,) * box.mask.ndim)
     own["touches"] = str(int(box.touches(sides)))
     return [str(box.label), str(len(pieces)), *(moved(name, own[name], box.place) for name in names[1:])]
 
 
-def _together(box: Box, columns: dict[str, list[str]]) -> dict[str, str]:
+def _together(box: Box, columns: dict[str, list[str]], voxel: Sequence[int]) -> dict[str, str]:
     """What is said of a label in several pieces, by the columns of its pieces."""
     own = dict.fromkeys(columns, "")
     for name in own:
@@ -79,12 +81,12 @@ def _together(box: Box, columns: dict[str, list[str]]) -> dict[str, str]:
             own[name] = str(sum(map(Decimal, values)))
         elif name in _LEAST or name in _GREATEST:
             own[name] = str((min if name in _LEAST else max)(map(int, values)))
-    if "radius" in columns:
+    if all(columns.get("radius", [""])):
         deepest = max(range(len(columns["radius"])), key=lambda k: Decimal(columns["radius"][k]))
         own |= {name: columns[name][deepest] for name in _DEEPEST if name in columns}
     own |= {name: value for name, value in zip(_CENTROID, _centroid(box.mask)) if name in columns}
     if "feret" in columns:
-        own |= dict(zip(_FERET, feret(box.mask)))
+        own |= dict(zip(_FERET[box.mask.ndim], feret(box.mask, voxel)))
     return own
 
 
@@ -94,14 +96,28 @@ def _centroid(mask: np.ndarray) -> list[str]:
     return [str((Decimal(sum(axis)) / len(axis)).quantize(Decimal("0.001"), ROUND_HALF_UP)) for axis in points]
 
 
-def feret(mask: np.ndarray) -> list[str]:
-    """The greatest distance of two points, and two that have it: the first in raster order, and the last one at that distance from it."""
-    points = np.array(sorted(_hull(_ends_of_rows(mask)), key=lambda point: point[::-1]))
-    squares = ((points[:, None] - points[None]) ** 2).sum(2)
-    first = int(squares.max(1).argmax())
-    last = len(points) - 1 - int(squares[first][::-1].argmax())
-    length = Decimal(int(squares.max())).sqrt().quantize(Decimal("0.001"), ROUND_HALF_UP)
+def feret(mask: np.ndarray, voxel: Sequence[int] = (1, 1, 1)) -> list[str]:
+    """The greatest distance of two points, and two that have it: the first in raster order, and the last one at that distance from it; a step along an axis is as long as
+    a voxel's side there."""
+    points = np.array(sorted(_outermost(mask), key=lambda point: point[::-1]))
+    places = points * np.array(voxel[: mask.ndim])
+    most = np.concatenate([_squares(places[k : k + _AT_ONCE], places).max(1) for k in range(0, len(places), _AT_ONCE)])
+    first = int(most.argmax())
+    last = len(points) - 1 - int(_squares(places[first : first + 1], places)[0, ::-1].argmax())
+    length = Decimal(int(most.max())).sqrt().quantize(Decimal("0.001"), ROUND_HALF_UP)
     return [str(length), *map(str, points[first].tolist()), *map(str, points[last].tolist())]
+
+
+def _squares(some: np.ndarray, places: np.ndarray) -> np.ndarray:
+    """The squared distances of some places from all."""
+    return ((some[:, None] - places[None]) ** 2).sum(2)
+
+
+def _outermost(mask: np.ndarray) -> set[tuple[int, ...]]:
+    """Points among which the two are that lie farthest apart: the corners of the convex hull, or of those of all slices."""
+    if mask.ndim == 2:
+        return _hull(_ends_of_rows(mask))
+    return {(*point, z) for z, own in enumerate(mask) if own.any() for point in _hull(_ends_of_rows(own))}
 
 
 def _ends_of_rows(mask: np.ndarray) -> list[tuple[int, int]]:
@@ -141,12 +157,16 @@ def joined_rows(tables: Sequence[tuple[Box, str]]) -> Iterator[Row]:
             yield [str(box.label), *(moved(name, value, box.place) for name, value in zip(names, row))]
 
 
-def tables(own: Sequence[Box], sides: Sequence[int], table_of: Callable[[Box, str], str], suffixes: Iterable[str]) -> dict[str, bytes]:
+def tables(own: Sequence[Box], sides: Sequence[int], table_of: Callable[[Box, str], str], suffixes: Iterable[str], voxel: Sequence[int] | None = None) -> dict[str, bytes]:
     """The tables of a label image, by what their names end in: a row for each label, and of further tables the rows of all labels' own.
 
-    `table_of` gives the table of a label's picture whose name ends so, or nothing where it has none; `sides` are those of the image.
+    `table_of` gives the table of a label's picture whose name ends so, or nothing where it has none; `sides` are those of the image, and `voxel` those of a voxel that
+    is no cube.
     """
-    made = {".csv": [header_of(table_of(own[0], ".csv")), *(row_of(box, table_of(box, ".csv"), sides) for box in own)]}
+    made = {}
+    for suffix, lengths in ((".csv", None), (SPACED[OBJECTS], voxel)):
+        if given := table_of(own[0], suffix):
+            made[suffix] = [header_of(given), *(row_of(box, table_of(box, suffix), sides, lengths) for box in own)]
     for suffix in ({HOLES, *suffixes} - {".csv"}):
         if given := [(box, table) for box in own if (table := table_of(box, suffix))]:
             made[suffix] = joined_rows(given)

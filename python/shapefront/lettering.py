@@ -62,7 +62,7 @@ def bar(pen: Any, at: tuple[float, float], width: float, scale: float, spacing: 
     pen.line([(x, y), (end, y)], INK, max(2, size // 6))
     for place in (x, end):
         pen.line([(place, y - size // 3), (place, y + size // 3)], INK, max(2, size // 8))
-    told = f"{spelled(length)} {spacing.unit}" if voxel != 1 or spacing and spacing.unit and spacing.is_cubic else f"{spelled(length)} voxel{'' if length == 1 else 's'}"
+    told = f"{spelled(length)} {spacing.unit.replace('um', 'µm')}" if voxel != 1 or spacing and spacing.unit and spacing.is_cubic else f"{spelled(length)} voxel{'' if length == 1 else 's'}"
     text(pen, ((x + end) / 2, y - size), told, size)
 
 

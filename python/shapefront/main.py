@@ -16,17 +16,19 @@ from typing import TYPE_CHECKING, Any
 from .batch import Image, images_of, run
 from .convert import picture_of, volume_of
 from .faults import Fault
-from .files import clear_aside, make_folder, shown, write
+from .files import clear_aside, is_full, make_folder, shown, unwritten, write
 from .folder import finish, originals
 from .hands import Hand
 from .inventory import others
-from .layout import EVIDENCE, MADE, PAGE
-from .plan import Plan
+from .layout import EVIDENCE, MADE, PAGE, are_many
+from .plan import Plan, masks_of
 from .programs import find
+from .seals import opened
 from .shares import SHARES
 from .stopping import SAID, STOPPED, cleared, stoppable
+from .thickness import can_draw
 from .units import Pixel
-from .words import options_of, parser, settings_of
+from .words import options_of, parser, settings_of, words_of
 
 if TYPE_CHECKING:
     from .beside import Covered
@@ -46,6 +48,8 @@ def measure(words: argparse.Namespace) -> int:
         return FAILED if failed else DONE
     if PAGE not in made["files"]:
         print(f"no {PAGE}, as Jinja2 is not installed: `apt install python3-jinja2`, or `pip install jinja2`", file=sys.stderr)
+    if "thickness" in masks_of(vars(words)) and not words.no_draw and not can_draw():
+        print("no drawings of the thickness, as matplotlib is not installed: `apt install python3-matplotlib`", file=sys.stderr)
     print(f"{len(images) - failed} of {len(images)} measured, in {_where(words.folder)}")
     return FAILED if failed else DONE
 
@@ -75,9 +79,16 @@ def measured(words: argparse.Namespace) -> tuple[list[Image], dict[str, Any]]:
         told, folder = {"number": share.number, "of": share.of, "given": len(images)}, share.folder(words.folder)
         images = [image for image in images if share.takes(image.name)]
     with _in_hand(folder, words.patience) as hand:
-        run(images, Plan.told(folder, options_of(words), hand), convert, words.jobs)
+        plan = Plan.told(folder, options_of(words), hand, _in_subfolders(folder, images))
+        run(images, plan, convert, words.jobs)
         hand.keep()
-        return images, finish(folder, images, options_of(words), told)
+        return images, finish(plan, images, told)
+
+
+def _in_subfolders(folder: Path, images: list[Image]) -> bool:
+    """Whether the pictures of a run lie in subfolders: as those of the run before it in this folder, and else where there are many."""
+    before = opened((folder / MADE).read_bytes()) if (folder / MADE).is_file() else None
+    return bool(before["subfolders"]) if before and "subfolders" in before else are_many(len(images))
 
 
 def _images(words: argparse.Namespace, is_volume: bool) -> list[Image]:
@@ -198,7 +209,7 @@ def main(words: list[str] | None = None) -> int:
     for stream in (sys.stdout, sys.stderr):
         if isinstance(stream, io.TextIOWrapper):
             stream.reconfigure(errors="surrogateescape")
-    given = parser().parse_args(words)
+    given = parser().parse_args(words_of(words))
     try:
         with stoppable():
             return {"check": check, "export": export, "join": join_shares}.get(given.command, measure)(given)
@@ -211,3 +222,8 @@ def main(words: list[str] | None = None) -> int:
     except BrokenPipeError:
         sys.stderr.close()
         return FAILED
+    except OSError as error:
+        if not is_full(error):
+            raise
+        print(f"shapes: {unwritten(error.filename or 'a temporary file', error, '')}", file=sys.stderr)
+        return NOTHING

@@ -10,7 +10,7 @@ import shutil
 from collections.abc import Iterator
 from contextlib import contextmanager
 from dataclasses import asdict
-from pathlib import Path, PurePosixPath
+from pathlib import Path
 from typing import Any
 
 import numpy as np
@@ -18,31 +18,35 @@ import numpy as np
 from .components import numbered
 from .convert import Picture
 from .faults import Fault
-from .files import ASIDE, TOKEN, shown, spelled_json, sum_of, sum_of_bytes, unwritten
+from .files import ASIDE, TOKEN, shown, sum_of, sum_of_bytes, unwritten
 from .intensities import intensities
 from .labelled import make_labels
 from .labels import boxes
-from .layout import EVIDENCE, FURTHER, MESH, REGION, is_own, named, part, record_of_key
+from .layout import EVIDENCE, FURTHER, MESH, REGION, THICKNESS, is_own, named, part, record_of_key
 from .meshes import mesh
 from .network import BRANCHES_OF
 from .overlay import Overlay, borders, branches, numbers
 from .packing import gzipped
 from .pictures import sides_of, spelled, suffix_of
 from .plan import Plan
-from .products import clear_evidence, draw, evidence_of, write_network_shown, write_shown, write_solid_shown
+from .products import clear_evidence, draw, evidence_of, mask_suffix, write_network_shown, write_shown, write_solid_shown
 from .programs import sums
 from .report import Analysis, counts_of, read
-from .seals import opened, sealed
+from .seals import opened, sealed, spelled_sealed
 from .solidviews import Solid
 from .tables import dicts_of, spelled_rows
+from .thickness import can_draw, drawing, widths_in
 
 Record = dict[str, Any]
 
 # The members of a record, in their order; the sum of its own comes behind them.
 MEMBERS = (
-    "image", "labels", "sides", "fit", "original", "channel", "filters", "spacing", "scan", "region", "cut", "notes", "rule", "plain", "drawn", "kept_reports",
+    "image", "key", "labels", "sides", "fit", "original", "channel", "filters", "spacing", "scan", "region", "cut", "notes", "rule", "plain", "drawn", "kept_reports",
     "masks", "wanted", "grey", "intensities", "picture", "programs", "parts", "kept", "files",
 )  # fmt: skip
+
+# What a user may ask for that is told of cubes alone.
+_OF_CUBES = {"network": "lengths of a network", "thickness": "thickness", "separation": "separation"}
 
 # What the record of a run is called, without its ending: an image cannot be called so.
 OF_ALL = "made"
@@ -52,31 +56,34 @@ def make(picture: Picture, plan: Plan) -> Record:
     """Makes what a picture gives, but where its record says that it is there already. The record; a Fault where it fails."""
     if picture.image == OF_ALL:
         raise Fault(picture.image, f"its record would have the name of that of all, {OF_ALL}.json", "rename it")
-    head, told = head_of(picture, plan), plan.folder / record_of_key(picture.image)
+    if picture.spacing and not picture.spacing.is_cubic and (asked := [told for name, told in _OF_CUBES.items() if plan.options[name]]):
+        raise Fault(picture.image, f"its voxels are no cubes, and {asked[0]} in them would be wrong", "give --cubes")
+    head, key = head_of(picture, plan), plan.key(picture.image)
+    told = plan.folder / record_of_key(key)
     before = opened(_bytes(told))
     if before is not None and _is_made(before, head, plan.folder):
         return before
     with _folder_aside(plan.folder) as work:
         counts = _products(picture, plan, work)
-        files = dict(sorted((named(picture.image, path.name), sum_of(path)) for path in work.iterdir()))
-        record = record_of({**head, **counts, "files": files})
-        (work / told.name).write_bytes(spelled_json(record))
+        files = dict(sorted((named(key, name), sum_of(f"{work}/{name}")) for name in os.listdir(work)))
+        record, data = spelled_sealed(_ordered({**head, **counts, "files": files}))
+        (work / told.name).write_bytes(data)
         if plan.hand:
             plan.hand.keep()
-        for name in (*files, record_of_key(picture.image)):
-            _put(work / PurePosixPath(name).name, plan.folder / name)
+        for name in (*files, record_of_key(key)):
+            _put(f"{work}/{name.rpartition('/')[2]}", f"{plan.folder}/{name}")
         for name in (before or {}).get("files", {}):
-            if name not in files and is_own(picture.image, name):
+            if name not in files and is_own(key, name):
                 (plan.folder / name).unlink(missing_ok=True)
     return record
 
 
-def _put(made: Path, path: Path) -> None:
+def _put(made: str, path: str) -> None:
     """Gives a file its name, in a folder that is made where it is not there."""
     try:
         os.replace(made, path)
     except FileNotFoundError:
-        path.parent.mkdir(parents=True, exist_ok=True)
+        Path(path).parent.mkdir(parents=True, exist_ok=True)
         os.replace(made, path)
 
 
@@ -90,7 +97,12 @@ def _bytes(path: Path) -> bytes:
 
 def record_of(members: Record) -> Record:
     """The record with these members, as it is written."""
-    return sealed({name: members[name] for name in MEMBERS})
+    return sealed(_ordered(members))
+
+
+def _ordered(members: Record) -> Record:
+    """These members in their order."""
+    return {name: members[name] for name in MEMBERS}
 
 
 def head_of(picture: Picture, plan: Plan) -> Record:
@@ -98,7 +110,7 @@ def head_of(picture: Picture, plan: Plan) -> Record:
     labels = None if picture.labels is None else [[box.label, *box.place] for box in boxes(picture.labels)]
     told = spelled(picture.mask) if picture.labels is None else np.ascontiguousarray(picture.labels).data
     return {
-        "image": picture.image, "labels": labels, "sides": list(sides_of(picture.mask)), "fit": picture.fit, "original": list(picture.original_sides),
+        "image": picture.image, "key": plan.key(picture.image), "labels": labels, "sides": list(sides_of(picture.mask)), "fit": picture.fit, "original": list(picture.original_sides),
         "channel": picture.settings.channel, "filters": asdict(picture.settings.filters),
         "spacing": picture.spacing.record if picture.spacing else None, "scan": picture.settings.scan.record,
         "region": sum_of_bytes(spelled(picture.region)) if picture.region is not None and picture.labels is None else None,
@@ -124,8 +136,8 @@ def _folder_aside(folder: Path) -> Iterator[Path]:
         try:
             yield work
         finally:
-            for left in list(work.iterdir()):
-                shutil.rmtree(left) if left.is_dir() else left.unlink()
+            for left in list(os.scandir(work)):
+                shutil.rmtree(left) if left.is_dir() else os.unlink(left)
     except OSError as error:
         raise unwritten(shown(folder), error, "may you write there?") from error
 
@@ -136,6 +148,14 @@ def _draw_solid(picture: Picture, skeleton: np.ndarray, has_mesh: bool, stem: Pa
     write_solid_shown(solid, skeleton, stem)
     if has_mesh:
         stem.with_name(stem.name + MESH).write_bytes(mesh(solid.mask, picture.spacing.by(picture.fit) if picture.spacing else None))
+
+
+def _draw_thickness(picture: Picture, plan: Plan, stem: Path) -> None:
+    """Draws the thickness of a picture where its mask is wanted; nothing where matplotlib is not installed."""
+    if "thickness" in plan.masks and can_draw():
+        sides = sides_of(picture.mask)
+        widths = widths_in(stem.with_name(stem.name + mask_suffix("thickness", sides)), sides)
+        stem.with_name(stem.name + THICKNESS).write_bytes(drawing(widths, plan.pixel(picture.fit, picture.spacing)))
 
 
 def _products(picture: Picture, plan: Plan, work: Path) -> Record:
@@ -161,6 +181,7 @@ def _of_picture(picture: Picture, plan: Plan, stem: Path) -> Record:
     report, is_flat = evidence_of(picture.mask, stem, plan, plan.wanted(picture.fit, picture.spacing), picture.image), picture.mask.ndim == 2
     if plan.draws:
         draw(report, stem, picture.image, is_flat)
+        _draw_thickness(picture, plan, stem)
     if is_flat and plan.draws:
         rows = dicts_of(stem.with_name(stem.name + ".csv").read_text())
         write_shown(Overlay(picture.backdrop, borders(report.read_bytes()), numbers(rows), picture.fit, numbered(picture.mask, by_corners=True)), stem)

@@ -16,11 +16,11 @@ from functools import lru_cache
 from pathlib import Path
 from typing import Any
 
-from .badges import Badge, badges_of
+from .badges import Badge, badges_of, chosen_sides
 from .columns import columns_of
 from .faults import Fault
 from .files import parsed, sum_of_bytes, write
-from .layout import FACES, JOINED, MADE, MESH, PICTURES, PLACES, SHEET, SKELETON_VIEWS, SLICES, SUMMARY, THUMBNAIL, WORKBOOK, drawing
+from .layout import FACES, JOINED, MADE, MESH, PICTURES, PLACES, SHEET, SKELETON_VIEWS, SLICES, SUMMARY, THICKNESS, THUMBNAIL, WORKBOOK, drawing
 from .overlay import THUMBNAIL as LONGEST
 from .solidviews import Tiles
 from .spacing import InUnit
@@ -134,15 +134,14 @@ class Page:
         yield f"made by shapes {self.versions['shapefront']} and the proved program {sums}; {MADE} has all options, sums and versions"
 
     def _cards(self) -> Iterator[Card]:
-        records = [record for _, record, _ in self.images if record]
-        areas = self._areas()
+        sides, areas = chosen_sides(record for _, record, _ in self.images if record), self._areas()
         for k, (name, record, failure) in enumerate(self.images):
             if record is None:
                 yield Card(name, None, "not measured", "", "", [Badge("failed", failure or "")], [failure or ""], [])
                 continue
             why = "no small picture: the drawings show it" if k >= MOST_PICTURES else "it has no small picture"
-            badges = badges_of(record, records, areas.get(name, []))
-            yield Card(name, self._picture(k, record, THUMBNAIL, "jpeg"), why, _counts(record), _sides(record), badges, record["notes"], _links(name, record, self.below.get(name, "")))
+            badges = badges_of(record, sides, areas.get(name, []))
+            yield Card(name, self._picture(k, record, THUMBNAIL, "jpeg"), why, _counts(record), _sides(record), badges, record["notes"], _links(record, self.below.get(name, "")))
 
     def _areas(self) -> dict[str, list[int]]:
         """The areas of the objects of each image."""
@@ -190,7 +189,7 @@ def _template() -> Any:
 
 
 _DRAWINGS = (
-    ("over the image", ".png"), ("its branches", ".network.png"), ("faces", FACES), ("skeleton", SKELETON_VIEWS), ("slices", SLICES), ("mesh", MESH), ("lines and skeleton", ".svg"),
+    ("over the image", ".png"), ("its branches", ".network.png"), ("faces", FACES), ("skeleton", SKELETON_VIEWS), ("slices", SLICES), ("mesh", MESH), ("thickness", THICKNESS), ("lines and skeleton", ".svg"),
 )  # fmt: skip
 _ROWS = {
     "holes.csv": "a row for each hole", "networks.csv": "a row for each network", "branches.csv": "a row for each branch", "widths.csv": "a row for each class of width",
@@ -203,9 +202,9 @@ _FILES = [
 ]  # fmt: skip
 
 
-def _links(name: str, record: dict[str, Any], below: str) -> list[tuple[str, str]]:
+def _links(record: dict[str, Any], below: str) -> list[tuple[str, str]]:
     """The drawings of an image, which lie below this folder, each with what it is called on the page."""
-    return [(told, below + target) for told, suffix in _DRAWINGS if (target := drawing(name, suffix)) in record["files"]]
+    return [(told, below + target) for told, suffix in _DRAWINGS if (target := drawing(record["key"], suffix)) in record["files"]]
 
 
 def _counts(record: dict[str, Any]) -> str:

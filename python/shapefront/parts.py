@@ -3,6 +3,7 @@ tables arranged from these. The same is made again to check what lies in a folde
 from __future__ import annotations
 
 import re
+from collections import defaultdict
 from collections.abc import Callable, Iterable, Iterator
 from dataclasses import dataclass
 from functools import cached_property
@@ -14,13 +15,14 @@ import numpy as np
 from .faults import Fault
 from .files import shown
 from .holes import Holes
-from .layout import HOLES, VOLUME, part
-from .morphometry import SEPARATION, Morphometry, region_beside
+from .layout import HOLES, SPACED, VOLUME, WHOLE, part, report_beside
+from .morphometry import SEPARATION, Morphometry, region_beside, sides_at_border
 from .network import Network
 from .outlines import arranged, outlines_of
 from .pictures import pbm_mask, solid_mask, solid_sides, spelled, suffix_beside, told_suffix
 from .plan import Wanted
 from .report import contours_in
+from .separation import separation
 from .solidnets import SolidNetwork
 from .tables import spelled_rows
 
@@ -74,8 +76,7 @@ class _OfOutlines:
         return {}
 
     def tables(self, measured: dict[str, str]) -> dict[str, bytes]:
-        report = self.stem.with_name(self.stem.name + ".report")
-        _, contours = contours_in(report if report.exists() else report.with_name(report.name + ".gz"))
+        _, contours = contours_in(report_beside(self.stem))
         return arranged(outlines_of(contours, self.steps, self.mask))
 
 
@@ -93,11 +94,20 @@ class _OfWhole:
     def pictures(self) -> dict[str, bytes]:
         if not self.wanted.separation:
             return {}
-        mask, region = solid_mask(self.stem.with_name(self.stem.name + told_suffix(self.sides)), self.sides), region_beside(self.stem, self.sides)
-        return {SEPARATION: spelled(~mask if region is None else region & ~mask)}
+        region = region_beside(self.stem, self.sides)
+        return {SEPARATION: spelled(~self._mask if region is None else region & ~self._mask)}
+
+    @property
+    def _mask(self) -> np.ndarray:
+        return solid_mask(self.stem.with_name(self.stem.name + told_suffix(self.sides)), self.sides)
 
     def tables(self, measured: dict[str, str]) -> dict[str, bytes]:
-        return {VOLUME: spelled_rows(Morphometry.of(self.stem, self.sides, measured.get(SEPARATION)).rows)}
+        region, x, y, z = region_beside(self.stem, self.sides), *self.sides
+        total, is_cubic = x * y * z if region is None else int(region.sum()), self.wanted.is_cubic
+        between = separation(report_beside(part(self.stem, SEPARATION, "")), self.sides, region) if self.wanted.separation and is_cubic else None
+        whole = Morphometry.of(self.stem, total, sides_at_border(self._mask, region), between, is_cubic, self.wanted.spacing)
+        spaced = whole.spaced_rows
+        return {VOLUME: spelled_rows(whole.rows), **({SPACED["volumes.csv"]: spelled_rows(spaced)} if spaced else {})}
 
 
 def works(stem: Path, wanted: Wanted, lying: bool = False) -> Iterator[Made]:
@@ -129,16 +139,20 @@ def _kinds(stem: Path, suffix: str, wanted: Wanted) -> list[tuple[tuple[str, ...
 def tables_of(wanted: Wanted, is_flat: bool) -> set[str]:
     """What the names of a picture's tables end in, its own and those that are made of it; one that has holes has a table of these, too."""
     if not is_flat:
-        return {".csv", *(_OfWhole.suffixes if wanted.whole else ()), *(SolidNetwork.suffixes if wanted.network else ())}
+        return {".csv", *((WHOLE, *_OfWhole.suffixes) if wanted.whole else ()), *(SolidNetwork.suffixes if wanted.network else ())}
     network = Network.suffixes if wanted.network else ()
     outlines = _OfOutlines.suffixes if wanted.sides is not None else ()
     return {".csv", *network, *outlines}
 
 
-def names_in(stem: Path, names: Iterable[str]) -> list[str]:
-    """The names of the parts of a picture, by those of files: each part has a report among them."""
-    report = re.compile(re.escape(stem.name) + r"\.(" + _NAMES.pattern + r")\.report(\.gz)?")
-    return sorted(match[1] for name in names if (match := report.fullmatch(Path(name).name)))
+def names_in(names: Iterable[str]) -> dict[str, list[str]]:
+    """The names of the parts of pictures, by what the names of the pictures' files begin with, where these are the names of all files: each part has a
+    report among them."""
+    report, found = re.compile(r"(.+)\.(" + _NAMES.pattern + r")\.report(\.gz)?", re.S), defaultdict(list)
+    for name in names:
+        if match := report.fullmatch(name):
+            found[match[1]].append(match[2])
+    return {stem: sorted(own) for stem, own in found.items()}
 
 
 def suffixes_of(names: Iterable[str], packed: str, picture: str = ".pbm") -> set[str]:

@@ -11,7 +11,7 @@ from .archives import SUFFIX as ARCHIVE
 from .arrays import verdict
 from .faults import Fault
 from .images import pillow_version
-from .layout import FACES, FURTHER, HOLES, MESH, PLACES, REGION, SHEET, SKELETON_VIEWS, SLICES, THUMBNAIL, drawing, evidence, part
+from .layout import FACES, FURTHER, HOLES, MESH, OBJECTS, PLACES, REGION, SHEET, SKELETON_VIEWS, SLICES, SPACED, THICKNESS, THUMBNAIL, WHOLE, drawing, evidence, part
 from .network import SKELETON
 from .overlay import Overlay
 from .parts import names_in, tables_of, works
@@ -28,13 +28,18 @@ DRAWINGS = (("draw", "labels"), ("draw",), ("draw", "contours"))
 GREY = ("distances", "thickness")
 
 
-def tables_words(is_solid: bool) -> tuple[tuple[str, ...], ...]:
-    """The words for the table of a report, the best ones first: of a volume with the thickness, where the program knows it."""
-    return (("measure", "thickness"), ("measure",)) if is_solid else (("measure",),)
+def tables_words(thickness: bool) -> tuple[tuple[str, ...], ...]:
+    """The words for the table of a report, the best ones first: with the thickness where it is wanted and the program knows it."""
+    return (("measure", "thickness"), ("measure",)) if thickness else (("measure",),)
 
 
-def measured(image: Path, stem: Path, rule: str, about: str) -> Path:
-    """Analyses a picture's file, checks the report, and writes its table. The report's file.
+def spaced_words(sides: Sequence[int]) -> tuple[str, ...]:
+    """The words for the table of a report in the unit of voxels with these sides."""
+    return ("measure", "spacing", *map(str, sides))
+
+
+def measured(image: Path, stem: Path, rule: str, about: str, thickness: bool = False) -> Path:
+    """Analyses a picture's file, checks the report, and writes its table, with the thickness where it is wanted. The report's file.
 
     The names of the files that it writes begin with `stem`. A Fault about the image `about` where the program refuses.
     """
@@ -45,13 +50,13 @@ def measured(image: Path, stem: Path, rule: str, about: str) -> Path:
     if not answer:
         raise Fault(about, f"its fresh report does not hold ({answer})", "this must never be: is the disk or the memory broken?")
     with open(stem.with_name(stem.name + ".csv"), "wb") as out:
-        write_table(report, bool(source.sides), out, about)
+        write_table(report, thickness, out, about)
     return report
 
 
-def write_table(report: Path, is_solid: bool, out: IO[bytes], about: str) -> None:
+def write_table(report: Path, thickness: bool, out: IO[bytes], about: str) -> None:
     """Writes the table of a report by the first of the words for it that the program knows. A Fault about the image `about` where it refuses."""
-    for words in tables_words(is_solid):
+    for words in tables_words(thickness):
         answer = call(*words, report, out=out)
         if not answer.status:
             return
@@ -67,12 +72,26 @@ def evidence_of(mask: np.ndarray, stem: Path, plan: Plan, wanted: Wanted, about:
     """
     image = stem.with_name(stem.name + suffix_of(mask))
     image.write_bytes(spelled(mask))
-    report = measured(image, stem, plan.rule, about)
+    report = measured(image, stem, plan.rule, about, wanted.thickness or mask.ndim == 3)
     for kind in plan.masks:
         with open(stem.with_name(stem.name + mask_suffix(kind, sides_of(mask))), "wb") as out:
             made("mask", kind, report, out=out, about=about)
+    if wanted.whole:
+        with open(stem.with_name(stem.name + WHOLE), "wb") as out:
+            made("measure", "whole", report, out=out, about=about)
+    if wanted.spacing and mask.ndim == 3:
+        _write_spaced(stem, report, wanted.spacing)
     write_parts(stem, report, wanted, about)
     return report
+
+
+def _write_spaced(stem: Path, report: Path, sides: Sequence[int]) -> None:
+    """Writes the table of a report in the unit of voxels with these sides; nothing where the program does not know the words for it."""
+    path = stem.with_name(stem.name + SPACED[OBJECTS])
+    with open(path, "wb") as out:
+        answer = call(*spaced_words(sides), report, out=out)
+    if answer.status:
+        path.unlink()
 
 
 def draw(report: Path, stem: Path, about: str, is_flat: bool) -> None:
@@ -152,12 +171,13 @@ def names_of(key: str, record: dict[str, Any]) -> set[str]:
     Those that show the original image, the drawing of a volume, and what is about holes and other parts are there where the record names them.
     """
     shown = {drawing(key, ".png"), drawing(key, ".network.png"), evidence(key, THUMBNAIL), evidence(key, PLACES), evidence(key, HOLES), drawing(key, ".svg")}
-    shown = (shown | {evidence(key, SHEET), *(drawing(key, suffix) for suffix in (FACES, SKELETON_VIEWS, SLICES, MESH))}) & record["files"].keys()
+    shown |= {evidence(key, suffix) for suffix in (SHEET, *SPACED.values())} | {drawing(key, suffix) for suffix in (FACES, SKELETON_VIEWS, SLICES, MESH, THICKNESS)}
+    shown &= record["files"].keys()
     if record["labels"] is not None:
         further = {FURTHER["objects.csv"]} if record["grey"] else set()
         return shown | {evidence(key, suffix) for suffix in {ARCHIVE, *further, *tables_of(Wanted.of(record), len(record["sides"]) == 2)}}
     drawn, packed = {drawing(key, ".svg")} if len(record["sides"]) == 2 and record["drawn"] else set(), "" if record["plain"] else ".gz"
-    suffixes = suffixes_of(record, record["sides"], packed) | part_suffixes(names_in(Path(key), record["files"]), packed, told_suffix(record["sides"]))
+    suffixes = suffixes_of(record, record["sides"], packed) | part_suffixes(names_in(record["files"]).get(evidence(key, ""), []), packed, told_suffix(record["sides"]))
     return shown | drawn | {evidence(key, suffix) for suffix in suffixes}
 
 

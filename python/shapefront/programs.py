@@ -7,11 +7,10 @@ from __future__ import annotations
 
 import os
 import shutil
-import subprocess
+import signal
 import sys
 import tempfile
-from collections.abc import Iterator
-from contextlib import contextmanager
+from contextlib import suppress
 from dataclasses import dataclass
 from functools import lru_cache
 from pathlib import Path
@@ -24,6 +23,9 @@ from .files import sum_of
 from .stopping import cleared
 
 NAME = "shape"
+
+# Signals that Python passes over, and the program does not.
+_USUAL = [signal.SIGPIPE, signal.SIGXFSZ]
 
 # What the program's words mean for one who gave images, by their beginnings: the reason, and what to do.
 _WORDS = (
@@ -90,27 +92,27 @@ class Answer:
 
 def call(*words: object, out: IO[bytes] | None = None) -> Answer:
     """Calls the program; what it writes goes to `out` where that is given. A Fault where it is not found or ends by a signal."""
-    path = find()
-    with _paper() as told, _paper() as message:
-        status = _run([str(path), *map(str, words)], out.fileno() if out else told, message)
+    path = str(find())
+    message = _paper()
+    told = out.fileno() if out else _paper()
+    try:
+        status = _run([path, *map(str, words)], told, message)
         if status < 0:
             raise Fault(path, f"was ended by signal {-status}", "give fewer --jobs, if memory is short")
         text, line = (b"" if out else _written(told)), _written(message)
+    finally:
+        os.close(message)
+        if not out:
+            os.close(told)
     return Answer(status, text.decode(errors="replace"), line.decode(errors="replace").strip().removeprefix(NAME + ": "))
 
 
-@contextmanager
-def _paper() -> Iterator[int]:
-    """A file without a name to write into, in memory where the system has such: its number."""
-    if not hasattr(os, "memfd_create"):
-        with tempfile.TemporaryFile() as file:
-            yield file.fileno()
-        return
-    number = os.memfd_create(NAME)
-    try:
-        yield number
-    finally:
-        os.close(number)
+def _paper() -> int:
+    """The number of a file without a name to write into, in memory where the system has such."""
+    if hasattr(os, "memfd_create"):
+        return os.memfd_create(NAME)
+    with tempfile.TemporaryFile() as file:
+        return os.dup(file.fileno())
 
 
 def _written(number: int) -> bytes:
@@ -131,14 +133,50 @@ def _nothing() -> int:
     return os.open(os.devnull, os.O_RDONLY)
 
 
+@lru_cache
+def _environment() -> dict[bytes, bytes]:
+    """The environment of programs, as it was at the first call."""
+    return dict(os.environb)
+
+
 def _run(words: list[str], out: int, message: int) -> int:
-    """Calls a program that writes into files of these numbers, and waits for its end: its status. It is ended where this is. A Fault where it cannot be run."""
-    try:
-        process = subprocess.Popen(words, stdin=_nothing(), stdout=out, stderr=message)
-    except OSError as error:
-        raise Fault(words[0], f"cannot be run ({error.strerror})", "is it built for this machine?") from error
-    with process, cleared(process.kill):
-        return process.wait()
+    """Calls a program that writes into files of these numbers, and waits for its end: its status, below 0 where a signal ended it. It is ended where this is.
+
+    It is begun by `posix_spawn`, which takes half the time of `subprocess`. A Fault where it cannot be run.
+    """
+    running = _Running()
+    with cleared(running.end):
+        running.begin(words, (_nothing(), out, message))
+        return running.wait()
+
+
+@dataclass
+class _Running:
+    """A program that is not begun, runs, or is at its end: its process while it runs."""
+
+    process: int | None = None
+
+    def begin(self, words: list[str], files: tuple[int, int, int]) -> None:
+        """Begins the program with its input and its two outputs in files of these numbers. A Fault where it cannot be run."""
+        places = [(os.POSIX_SPAWN_DUP2, number, place) for place, number in enumerate(files)]
+        try:
+            self.process = os.posix_spawn(words[0], words, _environment(), file_actions=places, setsigdef=_USUAL)
+        except OSError as error:
+            raise Fault(words[0], f"cannot be run ({error.strerror})", "is it built for this machine?") from error
+
+    def wait(self) -> int:
+        """Waits for the program's end: its status, below 0 where a signal ended it."""
+        _, status = os.waitpid(self.process or 0, 0)
+        self.process = None
+        return os.waitstatus_to_exitcode(status)
+
+    def end(self) -> None:
+        """Ends the program where it runs."""
+        if (process := self.process) is not None:
+            with suppress(ProcessLookupError):
+                os.kill(process, signal.SIGKILL)
+            with suppress(ChildProcessError):
+                os.waitpid(process, 0)
 
 
 def explained(about: object, answer: Answer) -> Fault:

@@ -7,6 +7,7 @@ from __future__ import annotations
 
 from collections.abc import Callable, Iterable, Iterator
 from dataclasses import dataclass, field
+from functools import cached_property
 from pathlib import Path
 from typing import Any
 
@@ -194,9 +195,14 @@ class RunCheck:
         except _NOT_RECORDS:
             return None, "it is no record that `shapes` wrote of this report"
 
+    @cached_property
+    def _parts_of(self) -> dict[str, list[str]]:
+        """The names of the parts of each picture that has some, by the files that `made.json` names."""
+        return names_in(self.made["files"])
+
     def _names(self, stem: Path) -> list[str]:
-        """The names of the parts of a picture, by the files that `made.json` names in its folder."""
-        return names_in(stem, (name for name in self.made["files"] if (self.folder / name).parent == stem.parent))
+        """The names of the parts of a picture."""
+        return self._parts_of.get(str(stem.relative_to(self.folder)), [])
 
     def _parts(self, stem: Path, wanted: Wanted, parts: list[Beside]) -> tuple[list[Told], dict[str, bytes]]:
         """What is wrong in a picture's parts, whose reports all hold; and the tables that these give."""
@@ -226,7 +232,7 @@ class RunCheck:
             return
 
         def table(record: Record, suffix: str) -> str:
-            return self._table(checked[record_of_key(record["image"])], record, suffix)
+            return self._table(checked[record_of_key(record["key"])], record, suffix)
 
         try:
             run = run_again(self.made, records)
@@ -256,7 +262,7 @@ class RunCheck:
 
     def _shown(self, record: Record, suffix: str) -> bytes | None:
         """What the page shows of an image, as it lies there."""
-        name = evidence(record["image"], suffix)
+        name = evidence(record["key"], suffix)
         return (self.folder / name).read_bytes() if name in self.made["files"] and self.inventory.is_whole(name) else None
 
     def _same(self, name: str, is_right: Callable[[bytes], bool], why: str) -> Iterator[Told]:
@@ -268,7 +274,7 @@ class RunCheck:
 
     def _table(self, one: Checked, record: Record, suffix: str) -> str:
         """A picture's own table as its report gives it; where that does not hold, as it was written. A Fault where it is spoilt, too."""
-        name = evidence(record["image"], suffix)
+        name = evidence(record["key"], suffix)
         if suffix in one.tables:
             return one.tables[suffix].decode()
         if name not in self.made["files"] or not self.inventory.is_whole(name):
@@ -302,4 +308,4 @@ class RunCheck:
     def _is_good(self, one: Checked) -> bool:
         if one.record is None or not all(finding.holds for _, finding in one.findings):
             return False
-        return not self.wrong & {self.folder / own for own in (*one.record["files"], record_of_key(one.record["image"]))}
+        return not self.wrong & {self.folder / own for own in (*one.record["files"], record_of_key(one.record["key"]))}

@@ -16,13 +16,20 @@ def sealed(value: dict[str, Any]) -> dict[str, Any]:
     return {**value, SEAL: sum_of_bytes(spelled_json(value))}
 
 
+def spelled_sealed(value: dict[str, Any]) -> tuple[dict[str, Any], bytes]:
+    """The sealed value, which has members, and its spelling, for which the value is spelled once."""
+    data = spelled_json(value)
+    own = sum_of_bytes(data)
+    return {**value, SEAL: own}, data.removesuffix(b"\n}\n") + b',\n "%b": "%b"\n}\n' % (SEAL.encode(), own.encode())
+
+
 def opened(data: bytes) -> dict[str, Any] | None:
     """The sealed value that these bytes spell to the last one, and None where they are no such spelling."""
     value = parsed(data)
     if not isinstance(value, dict):
         return None
     own = {name: member for name, member in value.items() if name != SEAL}
-    return value if spelled_json(sealed(own)) == data else None
+    return value if own and spelled_sealed(own)[1] == data else None
 
 
 def why_not(data: bytes) -> str:

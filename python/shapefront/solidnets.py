@@ -12,6 +12,7 @@ from pathlib import Path
 import numpy as np
 
 from .graphs import Branch, Graph, Pruned, numbers_of, pruned
+from .layout import report_beside
 from .plan import Wanted
 from .report import Analysis, read
 from .tables import Row, spelled_rows
@@ -65,8 +66,7 @@ class SolidNetwork:
     @classmethod
     def of(cls, stem: Path, wanted: Wanted) -> SolidNetwork:
         """The network of the volume whose files' names begin with `stem`."""
-        report = stem.with_name(stem.name + ".report")
-        whole = read(report if report.exists() else report.with_name(report.name + ".gz"))
+        whole = read(report_beside(stem))
         points = whole.skeleton
         return cls(whole, wanted, Pruned(Graph.of(points), 0) if wanted.prune is None else pruned(points, wanted.prune))
 

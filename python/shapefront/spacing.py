@@ -1,12 +1,14 @@
-"""How wide a voxel is along x, y and z, as a file or a user tells it, and what can be said in its unit: of voxels that are no cubes volumes and places alone.
-
-A number that would be wrong is never given: its cell stays empty.
+"""How wide a voxel is along x, y and z, as a file or a user tells it, and what can be said in its unit: of voxels that are no cubes volumes, places, and what the
+program measures by whole numbers as long as their sides. A number that would be wrong is never given: its cell stays empty.
 """
 from __future__ import annotations
 
 from collections.abc import Iterable, Sequence
 from dataclasses import dataclass
 from decimal import Context, Decimal, InvalidOperation
+from fractions import Fraction
+from functools import cached_property
+from math import gcd, lcm
 from typing import Any
 
 from .faults import Fault
@@ -24,6 +26,27 @@ _NAMES = {
 # Sizes that differ by no more than these parts of each other make a cube, and are the same told twice.
 _CUBE, _SAME = Decimal("0.0001"), Decimal("0.001")
 _DIGITS = Context(prec=9)
+# The greatest whole number that the program takes for the side of a voxel; and by what part of itself a side may be off where it is rounded to such.
+_MOST_WHOLE, _OFF = 1000, Fraction(1, 1000)
+# The columns that are told in the unit by these whole numbers; what else is told of voxels that are no cubes is told by their sizes.
+BY_SIDES = ("surface", "feret", "BS", "i.S", "BS/BV")
+
+
+@dataclass(frozen=True)
+class InWhole:
+    """The sides of a voxel as whole numbers of one length, and by what part of itself one of them is off at most."""
+
+    sides: tuple[int, int, int]
+    length: Decimal
+    off: Fraction
+
+    def times(self, number: str, power: int, fit: int = 1) -> str:
+        """A number that was measured with these sides in the unit of the length, where a voxel is `fit` of these wide; empty where there is none."""
+        return spelled(Decimal(number) * (self.length * fit) ** power) if number else ""
+
+    def __str__(self) -> str:
+        told = " by ".join(map(str, self.sides))
+        return told + (f", rounded by at most {float(100 * self.off):.2g} percent" if self.off else "")
 
 
 def unit_of(word: str | None) -> str | None:
@@ -93,12 +116,31 @@ class Spacing:
         return {"sizes": [str(size) for size in self.sizes], "unit": self.unit}
 
     @property
+    def in_mm(self) -> str:
+        """The words that give these sizes in millimetres."""
+        sizes = [spelled(size) for size in self.sizes]
+        return f"--pixel-size {sizes[0]} mm" if len(set(sizes)) == 1 else f"--voxel-size {' '.join(sizes)} mm"
+
+    @property
     def is_cubic(self) -> bool:
         return max(self.sizes) <= min(self.sizes) * (1 + _CUBE)
 
     @property
     def volume(self) -> Decimal:
         return self.sizes[0] * self.sizes[1] * self.sizes[2]
+
+    @cached_property
+    def in_whole(self) -> InWhole | None:
+        """The sides as whole numbers that the program takes: exactly where that goes, and else those that are off least. None of cubes, and where a side is off by too much."""
+        if self.is_cubic:
+            return None
+        sizes = [Fraction(size) for size in self.sizes]
+        common = lcm(*(size.denominator for size in sizes))
+        numbers = [int(size * common) for size in sizes]
+        shared = gcd(*numbers)
+        exact = max(numbers) // shared
+        found = min((_in_whole(sizes, most) for most in ([exact] if exact <= _MOST_WHOLE else range(1, _MOST_WHOLE + 1))), key=lambda own: own.off)
+        return found if found.off <= _OFF else None
 
     def by(self, factor: int) -> Spacing:
         """That of blocks of so many voxels along each side."""
@@ -176,6 +218,13 @@ class InUnit:
     @property
     def record(self) -> dict[str, str]:
         return {"unit": self.unit}
+
+
+def _in_whole(sizes: Sequence[Fraction], most: int) -> InWhole:
+    """The whole numbers next to these sizes, where the greatest of them is `most`."""
+    length = max(sizes) / most
+    sides = tuple(max(1, round(size / length)) for size in sizes)
+    return InWhole(sides, Decimal(length.numerator) / Decimal(length.denominator), max(abs(side * length / size - 1) for side, size in zip(sides, sizes)))
 
 
 def spelled(value: Decimal) -> str:

@@ -12,7 +12,7 @@ from types import FrameType
 
 SIGNALS = (signal.SIGINT, signal.SIGTERM, signal.SIGHUP)
 # So many seconds after a signal the command is at its end, whatever it is at work on.
-GRACE = 1.5
+GRACE = 1.0
 STOPPED = 130
 SAID = "\nshapes: stopped; the same command goes on where it was"
 

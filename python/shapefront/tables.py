@@ -13,6 +13,7 @@ from functools import partial
 from .faults import Fault
 from .files import encoded
 from .places import PLACES, in_image
+from .spacing import BY_SIDES, Spacing
 from .units import POWERS, Size
 
 Row = list[str]
@@ -24,7 +25,8 @@ MARK = b"\xef\xbb\xbf"
 class Part:
     """One picture's table, with what the rows of all of them say of the picture: how many of the image's pixels one is wide, and the image's sides.
 
-    `rest` is a further table with the rest of each row, where there is one; `size` the size of its own voxels, where it has one.
+    `rest` is a further table with the rest of each row, where there is one; `size` the size of its own voxels, where it has one, and `spaced` a table of
+    the same rows in the unit of the sides of voxels that are no cubes, where there is one.
     """
 
     image: str
@@ -33,6 +35,7 @@ class Part:
     table: str
     rest: str | None = None
     size: Size | None = None
+    spaced: str | None = None
 
 
 def rows_of(table: str) -> list[Row]:
@@ -41,7 +44,8 @@ def rows_of(table: str) -> list[Row]:
 
 def dicts_of(table: str) -> list[dict[str, str]]:
     """The rows of a table, each with its values by the names of their columns."""
-    return list(csv.DictReader(io.StringIO(table)))
+    names, *rows = rows_of(table) or [[]]
+    return [dict(zip(names, row)) for row in rows if row]
 
 
 def spelled_rows(rows: Iterable[Row]) -> bytes:
@@ -81,8 +85,8 @@ class Joint:
         if first != self.header:
             raise Fault(part.image, "its table has other columns than the others have", "was it made by another version? measure again into an empty folder")
         further, own = list(_further(first, part, self.pixel, self.fits)), [part.image, *([str(part.fit)] if self.fits else [])]
-        for row, others in zip(rest, _rest(part, self.more, len(rest))):
-            yield [*own, *row, *(column.of(row[column.at]) if row[column.at] else "" for column in further), *others]
+        for row, others, spaced in zip(rest, _rest(part, self.more, len(rest)), _spaced(part, len(rest))):
+            yield [*own, *row, *(spaced.get(column.name) or (column.of(row[column.at]) if row[column.at] else "") for column in further), *others]
 
 
 def _rest(part: Part, header: Row, count: int) -> list[Row]:
@@ -93,6 +97,17 @@ def _rest(part: Part, header: Row, count: int) -> list[Row]:
     if own != header or len(rows) != count:
         raise Fault(part.image, "its further table does not fit to its table", "measure again into an empty folder")
     return rows
+
+
+def _spaced(part: Part, count: int) -> list[dict[str, str]]:
+    """Of each of so many rows of a picture the columns in the unit that its table in the unit of its voxels' sides gives. A Fault where that has other rows."""
+    size = part.size.in_whole if part.spaced is not None and isinstance(part.size, Spacing) else None
+    if part.spaced is None or size is None:
+        return [{}] * count
+    rows = dicts_of(part.spaced)
+    if len(rows) != count:
+        raise Fault(part.image, "its table by the sides of its voxels does not fit to its table", "measure again into an empty folder")
+    return [{part.size.column(name): size.times(row[name], POWERS[name], part.fit) for name in BY_SIDES if name in row} for row in rows]
 
 
 @dataclass(frozen=True)

@@ -108,4 +108,4 @@ def _names(table: str) -> Row:
 
 def has(record: Record, suffix: str) -> bool:
     """Whether a picture has a file of evidence whose name ends so."""
-    return evidence(record["image"], suffix) in record["files"]
+    return evidence(record["key"], suffix) in record["files"]

@@ -13,7 +13,7 @@ POWERS = {
     **{"length": 1, "width": 1, "mean_width": 1, "width_from": 1, "width_to": 1, "volume": 3, "surface": 2},
     **{"convex_area": 2, "convex_perimeter": 1, "equivalent_diameter": 1, "min_feret": 1, "diameter": 1, "distance": 1, "thickness": 1, "thickness_sd": 1, "thickness_max": 1},
     **{"major": 1, "minor": 1},
-    **{"BV": 3, "TV": 3, "BS": 2, "BS/BV": -1, "Conn.D": -3},
+    **{"BV": 3, "TV": 3, "BS": 2, "i.S": 2, "BS/BV": -1, "Conn.D": -3},
     **{f"Tb.{name}{kind}": 1 for name in ("Th", "Sp") for kind in ("", "_sd", "_max")},
 }
 _DIGITS = Context(prec=9)

@@ -2,8 +2,11 @@
 from __future__ import annotations
 
 import argparse
+import re
+import sys
+from collections.abc import Iterator, Sequence
 from pathlib import Path
-from typing import TYPE_CHECKING, Any
+from typing import TYPE_CHECKING, Any, NoReturn
 
 from secondreading.limits import MOST_FLAT, MOST_SOLID
 
@@ -21,6 +24,36 @@ _STATUS = """
 status: 0 all is well; 1 an image failed, or something in a folder is not as it has to be; 2 the words are no command; 3 nothing could be done;
 130 stopped: the same command goes on where it was.
 """
+# How an error begins, and what is said behind it.
+_HINTS = {
+    "argument --pixel-size: expected 2": ", as in `--pixel-size 0.65 um`",
+    "argument --voxel-size: expected 4": ", as in `--voxel-size 0.5 0.5 2 um`; of cubes give `--pixel-size 0.5 um`",
+    "argument COMMAND: invalid choice": "; to measure an image: shapes measure IMAGE",
+}
+# The options that end in a unit, with the number of words up to it.
+_SIZES = {"--pixel-size": 2, "--voxel-size": 4}
+_IN_ONE_WORD = re.compile(r"([0-9.]*[0-9])([^\W\d_]+)")
+
+
+class Parser(argparse.ArgumentParser):
+    """One whose errors about a size show how it is given."""
+
+    def error(self, message: str) -> NoReturn:
+        super().error(message + next((hint for start, hint in _HINTS.items() if message.startswith(start)), ""))
+
+
+def words_of(given: Sequence[str] | None) -> list[str]:
+    """The words of a command as they are read: `help measure` asks for the help of `measure`, and `0.1mm` is a length and its unit."""
+    words = list(sys.argv[1:] if given is None else given)
+    return [*words[1:2], "--help"] if words[:1] == ["help"] else list(_apart(words))
+
+
+def _apart(words: list[str]) -> Iterator[str]:
+    """The words, where a unit that hangs on the last number of a size is a word of its own."""
+    for place, word in enumerate(words):
+        joined = _IN_ONE_WORD.fullmatch(word)
+        ends = any(place + 1 >= count and words[place + 1 - count] == option for option, count in _SIZES.items())
+        yield from joined.groups() if joined and ends else (word,)
 
 
 def _threshold(word: str) -> str:
@@ -121,6 +154,9 @@ def _making(parser: argparse.ArgumentParser) -> argparse._MutuallyExclusiveGroup
     parser.add_argument("--no-draw", action="store_true", help="make no drawings and no small pictures, which take most of the time")
     parser.add_argument("--no-report", action="store_true", help="keep the tables alone, without reports and pictures: then nothing can be checked later")
     parser.add_argument(
+        "--thickness", action="store_true", help="also measure the local thickness of each object, write it as a mask, and draw it with a colour bar where matplotlib is installed"
+    )
+    parser.add_argument(
         "--masks", action="append", choices=MASKS, default=[], help="also write a picture of this; may be given again for another"
     )
     parser.add_argument(
@@ -213,7 +249,7 @@ def _joining(words: argparse._SubParsersAction) -> None:
 
 def parser() -> argparse.ArgumentParser:
     """The words of the command."""
-    top = argparse.ArgumentParser(
+    top = Parser(
         prog="shapes", description="Images in; tables, drawings and reports that can be checked out.", epilog=_STATUS
     )
     top.add_argument("--version", action="version", version=f"shapes {__version__}")

@@ -31,3 +31,22 @@ def put(folder: Path) -> dict[str, str]:
     path.write_text(_SCRIPT.format(report=STORED / "word.report"))
     path.chmod(0o755)
     return {**os.environ, "SHAPE_BIN": str(folder)}
+
+
+# A program that knows `measure spacing A B C REPORT`, whatever the one behind it knows: of each row the radius is empty, the surface a thousand times A, and the
+# volume that of its voxels.
+_SPACED = """#!/bin/sh
+[ "$1 $2" = "measure spacing" ] || exec {real} "$@"
+{real} measure "$6" | awk -F, -v OFS=, -v a="$3" -v v=$(($3 * $4 * $5)) '
+    NR == 1 {{ for (k = 1; k <= NF; k++) at[$k] = k; print $0, "volume"; next }}
+    {{ $at["radius"] = ""; $at["surface"] = 1000 * a ".000"; print $0, v * $at["voxels"] }}'
+"""
+
+
+def put_spaced(folder: Path, real: Path) -> dict[str, str]:
+    """Puts a program into a folder that knows tables by the sides of voxels, and calls the real one for all else; the environment in which it is found."""
+    folder.mkdir(parents=True, exist_ok=True)
+    path = folder / "shape"
+    path.write_text(_SPACED.format(real=real))
+    path.chmod(0o755)
+    return {"SHAPE_BIN": str(folder)}

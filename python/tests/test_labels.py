@@ -44,6 +44,17 @@ class Boxes(unittest.TestCase):
         self.assertEqual(boxes(np.zeros((3, 3), int)), [])
 
 
+class Ferets(unittest.TestCase):
+    def test_in_space_and_with_sides_of_a_voxel(self):
+        for seed in range(1, 7):
+            mask, voxel = random_mask(seed, 5, 6, 7), (2, 3, 7)
+            points = np.argwhere(mask)[:, ::-1]
+            squares = (((points[:, None] - points[None]) * voxel) ** 2).sum(2)
+            first = squares.max(1).argmax()
+            last = len(points) - 1 - squares[first][::-1].argmax()
+            self.assertEqual(feret(mask, voxel), [f"{squares.max() ** 0.5:.3f}", *map(str, (*points[first], *points[last]))])
+
+
 @needs_shape
 @needs_pillow
 class Rows(InFolder):

@@ -15,7 +15,7 @@ from pathlib import Path
 
 import numpy as np
 
-from .common import HERE, PAGE, InFolder, installed, measured, needs_pillow, needs_shape, random_mask
+from .common import HERE, PAGE, ROOT, InFolder, installed, measured, needs_pillow, needs_shape, random_mask
 
 from secondreading.limits import MOST_SOLID
 from shapefront import programs, read
@@ -200,6 +200,10 @@ class Measuring(InFolder):
             (("measure", "empty"), 3, "empty: no image is in this folder"),
             (("measure", "in", "--pixel-size", "0", "mm"), 2, "`0 mm` is no length"),
             (("measure", "in", "--dpi", "many"), 2, "is no length"),
+            (("measure", "in", "--pixel-size", "0.1", "-o", "out"), 2, "expected 2 arguments, as in `--pixel-size 0.65 um`"),
+            (("volume", "in", "--voxel-size", "0.5", "mm", "-o", "out"), 2, "as in `--voxel-size 0.5 0.5 2 um`; of cubes give `--pixel-size 0.5 um`"),
+            (("in/000.png",), 2, "to measure an image: shapes measure IMAGE"),
+            (("help", "in"), 2, "invalid choice"),
             (("measure", "in", "--threshold", "half"), 2, "invalid"),
             (("measure", "in", "--jobs", "0"), 2, "invalid"),
             (("measure", "in", "--rule", "thin"), 2, "invalid choice"),
@@ -212,6 +216,27 @@ class Measuring(InFolder):
         ):  # fmt: skip
             found, _, error = self.shapes(*words)
             self.assertEqual((found, bool(re.search(reason, "\n".join(error)))), (status, True), (words, error))
+
+    def test_a_unit_in_the_same_word(self):
+        self.save(1)
+        self.assertEqual(self.shapes("measure", "in", "--pixel-size", "0.1mm", "-o", "out")[0], 0)
+        self.assertIn("a pixel is 0.1 mm wide", Path("out/summary.txt").read_text())
+
+    def test_help(self):
+        for words in ((), ("measure",), ("check",)):
+            self.assertEqual(self.shapes("help", *words), self.shapes(*words, "--help"))
+
+    def test_a_threshold_beyond_all_values(self):
+        self.save(1)
+        self.assertEqual(self.shapes("measure", "in", "--threshold", "300", "--light", "-o", "out")[0], 0)
+        self.assertIn("  no pixel is object: its values are 0 to 255\n", Path("out/summary.txt").read_text())
+        self.assertEqual(self.shapes("check", "out")[0], 0)
+
+    @unittest.skipUnless(Path("/usr/bin/python3").exists(), "there is no /usr/bin/python3")
+    def test_a_python_without_packages(self):
+        run = subprocess.run(["/usr/bin/python3", "-I", "-S", str(ROOT / "python" / "shapes"), "measure", "in"], stderr=subprocess.PIPE, text=True)
+        self.assertEqual(run.returncode, 1)
+        self.assertIn("has no package numpy; `/usr/bin/python3 -m pip install numpy`, or after `apt install python3-numpy`", run.stderr)
 
     def test_a_program_is_missing(self):
         self.save(1)

@@ -14,7 +14,7 @@ import numpy as np
 from .browser import HAS_BROWSER, Browser
 from .common import ROOT, InFolder, installed, needs_pillow, needs_shape
 
-from shapefront.badges import badges_of
+from shapefront.badges import badges_of, chosen_sides
 from shapefront.evenness import unevenness
 from shapefront.page import Page, with_verdict, without_verdict
 
@@ -189,7 +189,7 @@ class InBrowser(InFolder):
         cells = draw.gamma(2, 300, (10000, len(header) - 2))
         rows = [header, *([f"{k % 20}.png", str(k + 1), str(int(own[0])), *(f"{value:.3f}" for value in own[1:])] for k, own in enumerate(cells))]
         rows[1:] = sorted(rows[1:], key=lambda row: int(row[0][:-4]))
-        record = {"parts": [1, 500, 1], "kept": [1, 1, 1], "labels": None, "cut": None, "notes": [], "files": {}, "original": [9, 9], "fit": 1}
+        record = {"key": "0.png", "parts": [1, 500, 1], "kept": [1, 1, 1], "labels": None, "cut": None, "notes": [], "files": {}, "original": [9, 9], "fit": 1}
         page = Page([(f"{k}.png", record, None) for k in range(20)], {"rule": "curve"}, None, {"shapefront": "0", "programs": {}}, [], [], rows, lambda *_: None)
         Path("many.html").write_bytes(page.spelled())
         self.open("many.html")
@@ -324,11 +324,11 @@ class Badges(unittest.TestCase):
 
         light, dark, given = record("light"), record("dark"), record("dark", "given")
         run = [light, light, dark, given]
-        self.assertEqual([[badge.name for badge in badges_of(one, run, [])] for one in run], [[], [], ["objects dark"], []])
+        self.assertEqual([[badge.name for badge in badges_of(one, chosen_sides(run), [])] for one in run], [[], [], ["objects dark"], []])
         notes = ["its values are 0 to 24: if these are labels, give --labels", "the background is uneven: ..", "the lower 8 of its 16 bits are not used, .."]
-        self.assertEqual([badge.name for badge in badges_of(record("light", notes=notes), run, [])], ["labels?", "uneven background", "not all used"])
+        self.assertEqual([badge.name for badge in badges_of(record("light", notes=notes), chosen_sides(run), [])], ["labels?", "uneven background", "not all used"])
         for areas, has in (([1] * 5 + [50] * 20, True), ([1] * 4 + [50] * 4, False), ([1] * 6 + [50] * 60, False)):
-            self.assertEqual([badge.name for badge in badges_of(light, run, areas)], ["specks"] if has else [])
+            self.assertEqual([badge.name for badge in badges_of(light, chosen_sides(run), areas)], ["specks"] if has else [])
 
     def test_uneven_backgrounds(self):
         y, x = np.mgrid[:120, :160]

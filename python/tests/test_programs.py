@@ -36,7 +36,7 @@ class OtherPrograms(InFolder):
 
     def tell(self, **columns):
         Path("table").write_text(TABLE.format(**columns))
-        self.program("measure", f"cat {self.folder}/table")
+        self.program("measure", f'[ "$1" = whole ] && exec "{self.built}" measure "$@"\ncat {self.folder}/table')
 
     def test_lengths_among_columns_that_come_are_told_in_the_unit(self):
         for columns, names, values in (

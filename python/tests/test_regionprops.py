@@ -9,6 +9,7 @@ import numpy as np
 from .common import ROOT, InFolder, installed, needs_pillow, needs_shape, random_mask
 
 from shapefront.components import numbered
+from shapefront.programs import call
 
 if installed("PIL"):
     from PIL import Image
@@ -65,6 +66,18 @@ class Regionprops(InFolder):
                 np.testing.assert_allclose(ours[SAME[name]], theirs[name], rtol=1e-9)
             np.testing.assert_array_equal(1 - ours["holes"], theirs["euler_number"])
             np.testing.assert_array_equal(ours["euler"], theirs["euler_number"])
+
+    @unittest.skipUnless(installed("skimage"), "scikit-image is not installed")
+    def test_axes_have_the_moments_of_a_pixel_too(self):
+        for mask, grey, threshold in pictures():
+            self.measured(grey, threshold, "--plain")
+            Path("moments.csv").write_text(call("measure", "moments", "out/evidence/x.tif.report").text)
+            ours, theirs = table("moments.csv"), regionprops_table(label(mask, connectivity=2), properties=["axis_major_length", "axis_minor_length", "orientation"])
+            for name, other in (("major", "axis_major_length"), ("minor", "axis_minor_length")):
+                np.testing.assert_allclose(ours[name], np.sqrt(theirs[other] ** 2 + 4 / 3), rtol=0, atol=0.00051)
+            turn = np.arctan2(ours["axis_y"], ours["axis_x"]) / 2 - (np.pi / 2 - theirs["orientation"])
+            is_told = (ours["major"] > ours["minor"] + 0.01) & (ours["axis_x"] != 0)  # of an angle of 45 degrees scikit-image 0.19 tells the wrong one
+            np.testing.assert_allclose(np.sin(turn[is_told]), 0, rtol=0, atol=1e-9)
 
     @unittest.skipUnless(installed("skimage"), "scikit-image is not installed")
     def test_who_has_which_column_is_told(self):

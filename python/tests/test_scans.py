@@ -41,6 +41,25 @@ def um(*sizes):
     return Spacing.given("--voxel-size", [*map(str, sizes), "um"])
 
 
+def dicom_slice(name, page, depth, **more):
+    """Writes a slice, or several frames, by pydicom; what is told more takes the place of what stands here."""
+    from pydicom.dataset import FileDataset, FileMetaDataset
+    from pydicom.uid import ExplicitVRLittleEndian, generate_uid
+
+    meta = FileMetaDataset()
+    meta.TransferSyntaxUID, meta.MediaStorageSOPClassUID, meta.MediaStorageSOPInstanceUID = ExplicitVRLittleEndian, "1.2.840.10008.5.1.4.1.1.2", generate_uid()
+    one = FileDataset(name, {}, file_meta=meta, preamble=b"\0" * 128)
+    one.is_little_endian, one.is_implicit_VR = True, False
+    told = dict(
+        SOPClassUID=meta.MediaStorageSOPClassUID, SOPInstanceUID=meta.MediaStorageSOPInstanceUID, SeriesInstanceUID="1.2.3", Rows=page.shape[-2], Columns=page.shape[-1], BitsAllocated=16, BitsStored=16, HighBit=15,
+        PixelRepresentation=0, SamplesPerPixel=1, PhotometricInterpretation="MONOCHROME2", PixelSpacing=[0.2, 0.1], SliceThickness=9, ImagePositionPatient=[1, 2, depth],
+        ImageOrientationPatient=[1, 0, 0, 0, 1, 0], PixelData=page.tobytes(), InstanceNumber=1,
+    )  # fmt: skip
+    for key, value in {**told, **more}.items():
+        setattr(one, key, value)
+    one.save_as(name, write_like_original=False)
+
+
 class OfScans(InFolder):
     def same(self, path, array, spacing=None, asked=Asked()):
         """A file gives this array, and voxels of this size; and what was read."""
@@ -119,7 +138,7 @@ class Nifti(OfScans):
     def test_no_unit_and_one_volume_of_a_series(self):
         self.written("v.nii", values()[None], (1, 1, 2), None)
         found = self.same("v.nii", values(), Spacing.of(("1", "1", "2"), None))
-        self.assertIn("nothing is told in a unit: give --voxel-size with the unit", found.notes)
+        self.assertEqual(found.notes[-2:], ("its voxels are 1 by 1 by 2, in a unit that the file does not tell", "nothing is told in a unit: give the sizes with one, as in `--voxel-size 1 1 2 mm`"))
         self.written("v.nii", np.stack([values()] * 2), (1, 1, 2), "mm")
         self.refused("v.nii", r"an array of 4 axes \(2 by 4 by 5 by 6\)")
 
@@ -207,27 +226,10 @@ class Slices(OfScans):
 class Dicom(OfScans):
     """A series as pydicom writes it: names in another order than the places."""
 
-    def slice(self, name, page, depth, **more):
-        from pydicom.dataset import FileDataset, FileMetaDataset
-        from pydicom.uid import ExplicitVRLittleEndian, generate_uid
-
-        meta = FileMetaDataset()
-        meta.TransferSyntaxUID, meta.MediaStorageSOPClassUID, meta.MediaStorageSOPInstanceUID = ExplicitVRLittleEndian, "1.2.840.10008.5.1.4.1.1.2", generate_uid()
-        one = FileDataset(name, {}, file_meta=meta, preamble=b"\0" * 128)
-        one.is_little_endian, one.is_implicit_VR = True, False
-        told = dict(
-            SOPClassUID=meta.MediaStorageSOPClassUID, SOPInstanceUID=meta.MediaStorageSOPInstanceUID, SeriesInstanceUID="1.2.3", Rows=5, Columns=6, BitsAllocated=16, BitsStored=16, HighBit=15,
-            PixelRepresentation=0, SamplesPerPixel=1, PhotometricInterpretation="MONOCHROME2", PixelSpacing=[0.2, 0.1], SliceThickness=9, ImagePositionPatient=[1, 2, depth],
-            ImageOrientationPatient=[1, 0, 0, 0, 1, 0], PixelData=page.tobytes(), InstanceNumber=1,
-        )  # fmt: skip
-        for key, value in {**told, **more}.items():
-            setattr(one, key, value)
-        one.save_as(name, write_like_original=False)
-
     def series(self, folder, depths=(0, 0.5, 1, 1.5), **more):
         Path(folder).mkdir()
         for k, name in enumerate(("d", "a.dcm", "c", "b.dcm")):
-            self.slice(f"{folder}/{name}", values()[k], depths[k], **more)
+            dicom_slice(f"{folder}/{name}", values()[k], depths[k], **more)
 
     def test_in_the_order_of_places(self):
         self.series("in")
@@ -246,12 +248,12 @@ class Dicom(OfScans):
         self.series("twice", (0, 0.5, 0.5, 1))
         self.refused("twice", "two at one place")
         self.series("both")
-        self.slice("both/other", values()[0], 3, SeriesInstanceUID="1.2.4")
+        dicom_slice("both/other", values()[0], 3, SeriesInstanceUID="1.2.4")
         self.refused("both", "it holds 2 series")
         self.refused("both/a.dcm", "one slice, not a volume; give the folder")
 
     def test_several_frames(self):
-        self.slice("v.dcm", values(), 0, NumberOfFrames=4, SpacingBetweenSlices=0.5)
+        dicom_slice("v.dcm", values(), 0, NumberOfFrames=4, SpacingBetweenSlices=0.5)
         self.same("v.dcm", values(), Spacing.of(("0.1", "0.2", "0.5"), "mm"))
 
 
@@ -383,6 +385,20 @@ class Spacings(unittest.TestCase):
         self.assertTrue(flat.agrees(Spacing.of((500, 500, 2000), "nm")))
         self.assertFalse(flat.agrees(um(0.5, 0.5, 1)))
         self.assertTrue(Spacing.of((1, 1, 4), None).agrees(flat))
+
+    def test_whole_numbers(self):
+        for sizes, sides, length in (((0.5, 0.5, 2), (1, 1, 4), "0.5"), ((0.6, 0.4, 1), (3, 2, 5), "0.2"), ((1000, 1, 1), (1000, 1, 1), "1")):
+            found = um(*sizes).in_whole
+            self.assertEqual((found.sides, found.length, found.off), (sides, Decimal(length), 0))
+            self.assertEqual(str(found), " by ".join(map(str, sides)))
+        found = um("0.6510417", "0.6510417", "1.3").in_whole
+        self.assertLess(found.off, 0.0001)
+        self.assertIn("rounded by at most", str(found))
+        self.assertLessEqual(max(found.sides), 1000)
+        for side, size in zip(found.sides, (0.6510417, 0.6510417, 1.3)):
+            self.assertAlmostEqual(side * float(found.length) / size, 1, 4)
+        self.assertEqual((um(1, 1, 1).in_whole, um(1, 1, 3000).in_whole), (None, None))
+        self.assertEqual((um(0.5, 0.5, 2).in_whole.times("10", 2), um(0.5, 0.5, 2).in_whole.times("10", 2, 2), um(0.5, 0.5, 2).in_whole.times("", 2)), ("2.5", "10", ""))
 
     def test_what_is_none(self):
         for words in (["0", "1", "1", "um"], ["a", "1", "1", "um"], ["1", "1", "1", "u m"]):

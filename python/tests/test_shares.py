@@ -6,12 +6,15 @@ import shutil
 import subprocess
 import sys
 import unittest
+from hashlib import sha256
 from pathlib import Path
+from unittest import mock
 
 from . import fake
 from .common import HERE, PAGE, InFolder, measured, needs_pillow
 from .test_stopping import contents, save
 
+from shapefront import layout
 from shapefront.shares import Share
 
 OF_ALL = ["objects.csv", "pictures.csv", "summary.txt"]
@@ -35,8 +38,9 @@ class Which(unittest.TestCase):
                 Share.told(word)
 
 
-@needs_pillow
-class Joined(InFolder):
+class OfShares(InFolder):
+    """Tests of the command with a program of their own in the place of `shape`."""
+
     def setUp(self):
         super().setUp()
         before = os.environ.get("SHAPE_BIN")
@@ -57,6 +61,9 @@ class Joined(InFolder):
         self.assertEqual((status, error, bool(no)), (1, [], True), out)
         return "\n".join(no)
 
+
+@needs_pillow
+class Joined(OfShares):
     def test_the_tables_are_those_of_one_run(self):
         save(12)
         Path("in/0003.png").rename("in/µ, 3.png")
@@ -224,3 +231,67 @@ class Joined(InFolder):
         self.assertIn("out/shares/1/", self.no())
 
 
+@needs_pillow
+class InSubfolders(OfShares):
+    """Many images: each has its files in a folder by the first letters of a sum; here four are many."""
+
+    def setUp(self):
+        super().setUp()
+        patch = mock.patch.object(layout, "MANY", 4)
+        patch.start()
+        self.addCleanup(patch.stop)
+
+    def test_files_lie_in_folders_by_a_sum_of_the_name(self):
+        Path("in/a").mkdir(parents=True)
+        save(6)
+        Path("in/0005.png").rename("in/a/µ.png")
+        words = ("measure", "in", "in/a", "--dark", "-o")
+        self.assertEqual(self.shapes(*words, "out")[::2], (0, []))
+        with mock.patch.object(layout, "MANY", 7):
+            self.assertEqual(self.shapes(*words, "flat")[::2], (0, []))
+        for name in ("a/µ.png", "0001.png"):
+            place = sha256(name.encode()).hexdigest()[:2]
+            own, flat = contents(f"out/evidence/{place}"), contents("flat/evidence")
+            for suffix in (".pbm", ".csv", ".report.gz"):
+                self.assertEqual(own[name + suffix], flat[name + suffix])
+            self.assertTrue(Path("out/drawings", place, name + ".svg").is_file())
+        self.assertEqual({path.name for path in Path("out/evidence").iterdir() if path.is_file()}, {"made.json"})
+        for name in OF_ALL:
+            self.assertEqual(Path("out", name).read_bytes(), Path("flat", name).read_bytes(), name)
+        for folder in ("out", "flat"):
+            self.assertEqual(self.shapes("check", folder, "--originals", "in")[::2], (0, []))
+
+    def test_what_is_there_stays_and_a_folder_goes_on_as_it_was_begun(self):
+        save(3)
+        self.shapes("measure", "in", "--dark", "-o", "flat")
+        save(5)
+        self.shapes("measure", "in", "--dark", "-o", "flat")
+        self.assertTrue(Path("flat/evidence/0004.png.json").is_file())
+        self.assertEqual(self.shapes("check", "flat")[0], 0)
+        self.shapes("measure", "in", "--dark", "-o", "out")
+        before = {path: path.stat().st_mtime_ns for path in Path("out/evidence").rglob("*.png.*")}
+        Path("in/0004.png").unlink()
+        Path("in/0003.png").unlink()
+        self.shapes("measure", "in", "--dark", "-o", "out")
+        after = {path: path.stat().st_mtime_ns for path in Path("out/evidence").rglob("*.png.*")}
+        self.assertEqual(after, before)
+
+    def test_a_picture_in_another_folder_is_told(self):
+        save(4)
+        self.shapes("measure", "in", "--dark", "-o", "out")
+        place = sha256(b"0001.png").hexdigest()[:2]
+        Path(f"out/evidence/{place}").rename("out/evidence/xx")
+        self.assertIn(f"out/evidence/{place}/0001.png.report.gz: no, it is missing", self.no())
+
+    def test_shares_are_joined_and_checked(self):
+        save(12)
+        self.measured(2)
+        self.assertTrue([path for path in Path("out/shares/1/evidence").iterdir() if path.is_dir()])
+        self.assertEqual(self.join("in")[::2], (0, []))
+        self.assertEqual(self.shapes("check", "out", "--originals", "in")[0], 0)
+        with mock.patch.object(layout, "MANY", 100):
+            self.shapes("measure", "in", "--dark", "-o", "flat")
+        for name in OF_ALL:
+            self.assertEqual(Path("out", name).read_bytes(), Path("flat", name).read_bytes(), name)
+        page = Path("out/index.html").read_text() if "index.html" in PAGE else self.skipTest("Jinja2 is not installed")
+        self.assertTrue(all(Path("out", link).is_file() for link in re.findall(r'href="(shares/[^"]*)"', page)))

@@ -14,7 +14,7 @@ from pathlib import Path
 import numpy as np
 
 from . import fake
-from .common import HERE, InFolder, needs_pillow, slow
+from .common import HERE, InFolder, needs_pillow
 
 from shapefront import Fault, Missing
 from shapefront.faults import Busy, Full
@@ -88,25 +88,39 @@ def is_alive(process):
         return False
 
 
+# A run ends within so many seconds of a signal. Where other processes want the processors too, one of so many tries has to.
+SECONDS, TRIES = 2.0, 4
+
+
 @needs_pillow
-@slow
 class Stopping(WithFake):
     def stopped(self, kind, jobs, pace, to_group):
         """A run that is stopped in the middle: it ends soon, leaves nothing half-made, and goes on later to what a whole run gives."""
         save(24)
+        times = []
+        while not times or times[-1] > SECONDS and len(times) < TRIES:
+            times.append(self.seconds_to_end(kind, jobs, pace, to_group))
+        self.assertLessEqual(min(times), SECONDS, (kind, jobs, pace, times))
+        self.assertEqual(self.finish("measure", "in", "--dark", "--jobs", 2, "-o", "out")[0], 0)
+        self.assertEqual(self.finish("measure", "in", "--dark", "-o", "other")[0], 0)
+        self.assertEqual(contents("out"), contents("other"))
+
+    def seconds_to_end(self, kind, jobs, pace, to_group):
+        """How long a run takes from a signal in the middle to its end, at which nothing is half-made and no process of it is left."""
+        for place in ("out", "begun"):
+            shutil.rmtree(place, ignore_errors=True)
+        Path("begun").mkdir()
         run = self.start("measure", "in", "--dark", "--jobs", jobs, "-o", "out", pace=pace, start_new_session=True)
         self.until(lambda: len(self.begun()) > (jobs if float(pace) > 1 else 3 * jobs) - 1)
         began = time.monotonic()
         (os.killpg if to_group else os.kill)(run.pid, kind)
         _, error = run.communicate()
-        self.assertLess(time.monotonic() - began, 2.5, (kind, jobs, pace))
+        seconds = time.monotonic() - began
         self.assertEqual((run.returncode, "stopped; the same command goes on where it was" in error), (130, True), error)
         self.assertFalse([process for process in self.begun() if is_alive(process)])
         self.assertFalse([name for name in contents("out") if ".making" in name or MARK in name])
         self.assertFalse(Path("out/evidence/made.json").exists())
-        self.assertEqual(self.finish("measure", "in", "--dark", "--jobs", 2, "-o", "out")[0], 0)
-        self.assertEqual(self.finish("measure", "in", "--dark", "-o", "other")[0], 0)
-        self.assertEqual(contents("out"), contents("other"))
+        return seconds
 
     def test_by_ctrl_c(self):
         self.stopped(signal.SIGINT, 1, "0.05", True)
@@ -151,6 +165,22 @@ class Stopping(WithFake):
         self.assertEqual((status, len(self.begun())), (3, 1))
         self.assertIn("shapes: 0000.png: the output could not be written (write failed); make room: the same command goes on where it was", error)
 
+    def test_a_full_disk_ends_other_programs_that_are_slow(self):
+        save(6)
+        path = self.folder / "bin" / "shape"
+        path.write_text(path.read_text().replace("analyse)\n", "analyse)\n    case \"$3\" in *0000*) echo 'shape: write failed' >&2; exit 5 ;; esac\n"))
+        times = []
+        while not times or times[-1] > SECONDS and len(times) < TRIES:
+            shutil.rmtree("begun")
+            Path("begun").mkdir()
+            run = self.start("measure", "in", "--dark", "--jobs", 3, "-o", "out", pace="100")
+            _, error = run.communicate()
+            self.assertEqual((run.returncode, error.count("\n")), (3, 1), error)
+            self.assertFalse([process for process in self.begun() if is_alive(process)])
+            self.assertFalse([name for name in contents("out") if ".making" in name or MARK in name])
+            times.append(time.time() - max([path.stat().st_mtime for path in Path("begun").iterdir()], default=time.time()))
+        self.assertLessEqual(min(times), SECONDS, times)
+
     @unittest.skipUnless(sys.platform == "linux" and os.getuid() == 0, "only root can mount a small disk")
     def test_a_full_disk_ends_the_run(self):
         save(60)
@@ -170,30 +200,55 @@ class Stopping(WithFake):
         self.assertEqual(contents("out"), contents("other"))
 
 
+# In a name space of processes of its own, where no process of this one is seen: as on another host.
+ELSEWHERE = ["unshare", "--pid", "--fork", "--mount-proc"]
+
+
+def needs_elsewhere(test):
+    has = shutil.which("unshare") and not subprocess.run([*ELSEWHERE, "true"], capture_output=True).returncode
+    return unittest.skipUnless(has, "no name space of processes may be made here")(test)
+
+
 @needs_pillow
 class TwoRuns(WithFake):
-    @slow
-    def test_the_second_is_told_of_the_first_and_both_are_whole(self):
-        for before in ([], ["unshare", "--pid", "--fork", "--mount-proc"]):
-            if before and subprocess.run([*before, "true"], capture_output=True).returncode:
-                self.skipTest("no name space of processes may be made here")
-            save(10)
-            self.environment["SHAPE_GATE"] = str(self.folder / "gate")
-            first = self.start("measure", "in", "--dark", "-o", "out", "--patience", 3)
-            self.until(lambda: len(self.begun()) > 0)
-            second = self.start("measure", "in", "--dark", "-o", "out", before=before)
-            out, error = second.communicate()
-            self.assertEqual((second.returncode, out), (3, ""), error)
-            self.assertRegex(error, "shapes: out: another run is at work here .host .*, process [0-9]+, since .*.; wait for it, or choose another folder")
-            Path("gate").touch()
-            out, error = first.communicate()
-            self.assertEqual((first.returncode, out[:25], error), (0, "10 of 10 measured, in out", ""))
-            self.assertEqual(self.finish("measure", "in", "--dark", "-o", "other")[0], 0)
-            self.assertEqual(contents("out"), contents("other"))
-            for folder in ("out", "other", "begun"):
-                shutil.rmtree(folder)
-            Path("begun").mkdir()
-            Path("gate").unlink()
+    def second_is_told(self, before):
+        """The second run on a folder is told of the first, which goes on to what a run gives that is alone."""
+        save(10)
+        self.environment["SHAPE_GATE"] = str(self.folder / "gate")
+        first = self.start("measure", "in", "--dark", "-o", "out", "--patience", 12)
+        self.until(lambda: len(self.begun()) > 0)
+        second = self.start("measure", "in", "--dark", "-o", "out", before=before)
+        out, error = second.communicate()
+        self.assertEqual((second.returncode, out), (3, ""), error)
+        self.assertRegex(error, "shapes: out: another run is at work here .host .*, process [0-9]+, since .*.; wait for it, or choose another folder")
+        Path("gate").touch()
+        out, error = first.communicate()
+        self.assertEqual((first.returncode, out[:25], error), (0, "10 of 10 measured, in out", ""))
+        self.assertEqual(self.finish("measure", "in", "--dark", "-o", "other")[0], 0)
+        self.assertEqual(contents("out"), contents("other"))
+
+    def test_the_second_is_told_of_the_first_and_the_folder_is_whole(self):
+        self.second_is_told([])
+
+    @needs_elsewhere
+    def test_the_same_in_two_name_spaces_of_processes(self):
+        self.second_is_told(ELSEWHERE)
+
+    @needs_elsewhere
+    def test_two_shares_at_once_in_two_name_spaces_are_both_whole(self):
+        save(10)
+        self.environment["SHAPE_GATE"] = str(self.folder / "gate")
+        runs = [self.start("measure", "in", "--dark", "--share", f"{k}/2", "-o", "out", before=before) for k, before in ((1, []), (2, ELSEWHERE))]
+        self.until(lambda: len(self.begun()) > 1)
+        Path("gate").touch()
+        for run in runs:
+            _, error = run.communicate()
+            self.assertEqual((run.returncode, error), (0, ""))
+        self.assertEqual(self.finish("join", "out", "in")[::2], (0, ""))
+        self.assertEqual(self.finish("measure", "in", "--dark", "-o", "other")[0], 0)
+        for name in ("objects.csv", "pictures.csv", "summary.txt"):
+            self.assertEqual(Path("out", name).read_bytes(), Path("other", name).read_bytes(), name)
+        self.assertEqual(self.finish("check", "out")[0], 0)
 
     def test_a_mark_of_another_host_is_taken_over_when_its_time_has_run_out(self):
         save(2)

@@ -3,6 +3,7 @@ import csv
 import gzip
 import io
 import os
+import subprocess
 import unittest
 import unittest.mock
 from pathlib import Path
@@ -10,11 +11,14 @@ from pathlib import Path
 import numpy as np
 
 from .browser import HAS_BROWSER, Browser
+from . import fake
+from .test_scans import UNU, dicom_slice
 from .common import InFolder, installed, needs_pillow, needs_shape, random_mask
 
 from shapefront import meshes, programs
 from shapefront.graphs import Graph, length, pruned
-from shapefront.morphometry import COLUMNS, Morphometry
+from shapefront.morphometry import COLUMNS, Morphometry, sides_at_border
+from shapefront.separation import Spread
 from shapefront.solidviews import Solid, Tiles
 from shapefront.spacing import Spacing
 
@@ -87,6 +91,15 @@ class Tables(InFolder):
             tifffile.imwrite("v.ome.tif", values, metadata={"axes": "ZYX"}, photometric="minisblack")
             tifffile.imwrite("v.tif", values, imagej=True, metadata={"axes": "ZYX"})
             names += ["v.ome.tif", "v.tif"]
+        if installed("pydicom"):
+            Path("series").mkdir()
+            for k, page in enumerate(values):
+                dicom_slice(f"series/{9 - k}.dcm", page.astype(np.uint16), k)
+            names.append("series")
+        if UNU:
+            values.tofile("unu.raw")
+            subprocess.run([UNU, "make", "-i", "unu.raw", "-t", "uchar", "-s", "8", "7", "6", "-e", "raw", "-o", "unu.nrrd"], check=True, stderr=subprocess.DEVNULL)
+            names.append("unu.nrrd")
         if installed("vtk"):
             from vtkmodules.util.numpy_support import numpy_to_vtk
             from vtkmodules.vtkCommonDataModel import vtkImageData
@@ -104,7 +117,7 @@ class Tables(InFolder):
         self.measured(*names, "v.nrrd", "slices", "--sides", 8, 7, 6)
         rows = {}
         for row in table("out/objects.csv"):
-            rows.setdefault(row.pop("image"), []).append(row)
+            rows.setdefault(row.pop("image"), []).append({name: value for name, value in row.items() if "_mm" not in name})
         self.assertEqual(len(rows), len(names) + 2)
         for name, own in rows.items():
             self.assertEqual(own, rows["v.npy"], name)
@@ -122,7 +135,8 @@ class Tables(InFolder):
             self.assertAlmostEqual(float(row["z_um"]), 2 * float(row["z"]), 6)
             self.assertAlmostEqual(float(row["x_um"]), float(row["x"]) / 2, 6)
         whole = table("out/volumes.csv")[0]
-        self.assertEqual((float(whole["TV_um3"]), whole["BS_um2"], whole["Tb.Th_um"]), (6 * 7 * 8 / 2, "", ""))
+        self.assertEqual((float(whole["TV_um3"]), whole["Tb.Th_um"]), (6 * 7 * 8 / 2, ""))
+        self.assertEqual(whole["BS_um2"] != "", has_words("measure", "spacing", 1, 1, 4))
         self.checked("--originals", ".", "--allow", "v.npy")
 
     def test_cubes_of_them_are_measured_in_the_unit(self):
@@ -182,6 +196,70 @@ class Tables(InFolder):
         self.assertEqual([row["voxels_um3"] for row in table("out/objects.csv")], ["90", "90"])
         self.checked()
         self.assertEqual(self.shapes("volume", "v.npy", "--labels", "--network", "-o", "out")[0], 2)
+
+
+@needs_shape
+@needs_pillow
+class Spaced(InFolder):
+    """Voxels that are no cubes, with a program that measures by whole-number sides of them, and with one that does not know how."""
+
+    def setUp(self):
+        super().setUp()
+        np.save("v.npy", random_mask(4, 6, 7, 8))
+
+    def measured(self, *words, knows=True):
+        environment = fake.put_spaced(Path("bin").resolve(), programs.find()) if knows else {"SHAPE_BIN": str(programs.find().parent)}
+        with unittest.mock.patch.dict(os.environ, environment):
+            self.assertEqual(self.shapes("volume", "v.npy", "--light", *words, "-o", "out")[0::2], (0, []))
+            status, out, _ = self.shapes("check", "out")
+        self.assertEqual(status, 0, out)
+        return Path("out/summary.txt").read_text(), table("out/objects.csv"), table("out/volumes.csv")[0] if Path("out/volumes.csv").exists() else None
+
+    def test_surfaces_are_told_in_the_unit(self):
+        told, rows, whole = self.measured("--voxel-size", 0.5, 0.5, 2, "um")
+        self.assertIn("surfaces and Feret diameters are told in the unit (by sides of 1 by 1 by 4), radii and thickness are not", told)
+        for row in rows:
+            self.assertEqual((row["surface_um2"], row["radius_um"]), ("250", ""))
+            self.assertEqual(float(row["voxels_um3"]), int(row["voxels"]) / 2)
+        self.assertEqual((whole["BS"], float(whole["BS_um2"]), whole["Tb.Th_um"]), ("", 250 * len(rows), ""))
+        self.assertAlmostEqual(float(whole["BS/BV_um-1"]), float(whole["BS_um2"]) / float(whole["BV_um3"]), 6)
+
+    def test_a_table_of_it_that_was_changed(self):
+        self.measured("--voxel-size", 0.5, 0.5, 2, "um")
+        path = Path("out/evidence/v.npy.spacing.csv")
+        path.write_text(path.read_text().replace("1000.000", "2000.000", 1))
+        with unittest.mock.patch.dict(os.environ, {"SHAPE_BIN": str(Path("bin").resolve())}):
+            self.assertIn("is not what `shape measure` makes of it", "\n".join(self.shapes("check", "out")[1]))
+
+    def test_a_voxel_of_a_volume_that_was_made_smaller(self):
+        _, rows, _ = self.measured("--voxel-size", 0.5, 0.5, 2, "um")
+        values = np.load("v.npy").repeat(2, 0).repeat(2, 1).repeat(2, 2)
+        np.save("v.npy", values)
+        with unittest.mock.patch("shapefront.convert.MOST_SOLID", 8):
+            _, fitted, whole = self.measured("--voxel-size", 0.25, 0.25, 1, "um", "--fit")
+        self.assertEqual([row["surface_um2"] for row in fitted], [row["surface_um2"] for row in rows])
+        self.assertEqual(float(whole["BS_um2"]), 250 * len(rows))
+
+    def test_labels_in_one_piece_and_in_two(self):
+        labels = np.zeros((5, 6, 9), np.uint8)
+        labels[1:4, 1:3, 1:6], labels[1:3, 4, 1:3], labels[1:3, 4, 6:8] = 1, 2, 2
+        np.save("v.npy", labels)
+        _, rows, whole = self.measured("--labels", "--voxel-size", 1, 1, 3, "um")
+        self.assertIsNone(whole)
+        self.assertEqual([(row["pieces"], row["surface_um2"], row["radius_um"], row["voxels_um3"]) for row in rows], [("1", "1000", "", "90"), ("2", "2000", "", "24")])
+
+    def test_a_program_that_does_not_know_it(self):
+        if has_words("measure", "spacing", 1, 1, 4):
+            self.skipTest("the program knows it")
+        told, rows, whole = self.measured("--voxel-size", 0.5, 0.5, 2, "um", knows=False)
+        self.assertIn("volumes and places are told in the unit, lengths and areas are not", told)
+        self.assertTrue(all(row["surface_um2"] == row["radius_um"] == "" for row in rows))
+        self.assertEqual((whole["BS"], whole["BS_um2"]), ("", ""))
+
+    def test_a_network_wants_cubes(self):
+        with unittest.mock.patch.dict(os.environ, {"SHAPE_BIN": str(programs.find().parent)}):
+            status, _, error = self.shapes("volume", "v.npy", "--light", "--network", "--voxel-size", 0.5, 0.5, 2, "um", "-o", "out")
+        self.assertEqual((status, error), (1, ["v.npy: its voxels are no cubes, and lengths of a network in them would be wrong; give --cubes"]))
 
 
 @needs_shape
@@ -260,30 +338,71 @@ class Graphs(unittest.TestCase):
 
 
 class Whole(InFolder):
-    """The row of a whole volume, by tables as the program prints them once it knows these columns."""
+    """The row of a whole volume, by tables as the program prints them."""
 
-    def test_what_follows_from_the_columns(self):
-        Path("v.report").write_text("shape 1 raw 10 10 10 curve\nparts 300 2 2\nkept 3 2 1\nend\n")
-        Path("v.csv").write_text("object,voxels,sides,euler,surface,thickness,thickness_sd,thickness_max\n1,200,9,-3,150.500,4.000,1.000,6.000\n2,100,5,2,80.000,7.000,0.000,7.000\n")
-        spaces = "object,voxels,thickness,thickness_sd,thickness_max\n1,700,10.000,2.000,14.000\n"
-        header, row = Morphometry.of(Path("v"), (10, 10, 10), spaces).rows
+    def put(self, objects):
+        Path("v.whole.csv").write_text("voxels,pieces,pores,tunnels,euler,surface\n300,2,1,4,-1,230.501\n")
+        Path("v.csv").write_text(objects)
+
+    def test_what_follows_from_the_tables(self):
+        self.put("object,voxels,sides,euler,surface,thickness,thickness_sd,thickness_max\n1,200,9,-3,150.500,4.000,1.000,6.000\n2,100,5,2,80.000,7.000,0.000,7.000\n")
+        header, row = Morphometry.of(Path("v"), 1000, (3, 4, 5), Spread(10.0, 2.0, 14.0), True).rows
         self.assertEqual(header, COLUMNS)
         self.assertEqual(
             dict(zip(header, row)),
             {
-                "TV": "1000", "BV": "300", "background": "700", "BV/TV": "0.3", "porosity": "0.7", "BS": "230.500", "BS/BV": "0.768333333",
-                "Tb.Th": "5.000", "Tb.Th_sd": f"{(2 / 3 * 17 + 49 / 3 - 25) ** 0.5:.3f}", "Tb.Th_max": "7.000", "Tb.Sp": "10.000", "Tb.Sp_sd": "2.000", "Tb.Sp_max": "14.000",
+                "TV": "1000", "BV": "300", "background": "700", "BV/TV": "0.3", "porosity": "0.7", "BS": "230.501", "i.S": "12", "BS/BV": "0.768336667",
+                "Tb.Th": "5.000", "Tb.Th_sd": f"{(2 / 3 * 17 + 49 / 3 - 25) ** 0.5:.3f}", "Tb.Th_max": "7.000", "Tb.Sp": "10.00", "Tb.Sp_sd": "2.00", "Tb.Sp_max": "14.00",
                 "euler": "-1", "Conn.D": "0.002", "pieces": "2", "closed_pores": "1", "tunnels": "4",
             },
         )  # fmt: skip
 
-    def test_columns_that_are_not_there_leave_cells_empty(self):
-        Path("v.report").write_text("shape 1 raw 10 10 10 curve\nparts 300 2 2\nkept 3 2 1\nend\n")
-        Path("v.csv").write_text("object,voxels,sides\n1,200,9\n2,100,5\n")
-        header, row = Morphometry.of(Path("v"), (10, 10, 10), None).rows
-        told = dict(zip(header, row))
-        self.assertEqual([name for name in header if not told[name]], [name for name in header if name[:2] in ("BS", "Tb") or name in ("euler", "Conn.D", "tunnels")])
-        self.assertEqual((told["pieces"], told["closed_pores"]), ("2", "1"))
+    def test_of_voxels_that_are_no_cubes_lengths_and_areas_are_empty(self):
+        self.put("object,voxels,thickness,thickness_sd,thickness_max\n1,300,4.000,1.000,6.000\n")
+        whole = Morphometry.of(Path("v"), 1000, (3, 4, 5), None, False, (1, 1, 4))
+        told = dict(zip(*whole.rows))
+        self.assertEqual([name for name in COLUMNS if not told[name]], [name for name in COLUMNS if name[:2] in ("BS", "Tb", "i.")])
+        self.assertIsNone(whole.spaced_rows)
+        Path("v.spacing.csv").write_text("object,voxels,volume,surface\n1,200,800,400.500\n2,100,400,99.500\n")
+        told = dict(zip(*Morphometry.of(Path("v"), 1000, (3, 4, 5), None, False, (1, 1, 4)).spaced_rows))
+        self.assertEqual({name: value for name, value in told.items() if value}, {"BS": "500.000", "i.S": "33", "BS/BV": "0.416666667"})
+
+    def test_sides_at_the_border(self):
+        mask = random_mask(4, 4, 5, 6)
+        wide = np.pad(mask, 1)
+        every = tuple(int((np.diff(wide.astype(int), axis=axis) != 0).sum()) for axis in (2, 1, 0))
+        self.assertEqual(sides_at_border(mask, mask), every)
+        self.assertEqual(sides_at_border(mask, np.ones_like(mask)), sides_at_border(mask, None))
+        self.assertEqual(sides_at_border(np.ones((2, 3, 4), bool), None), (12, 16, 24))
+
+    def test_a_spread(self):
+        self.assertEqual(Spread.of(np.array([0, 3, 0, 1]), 0.5), Spread(0.75, 0.75**0.5 / 2, 1.5))
+        self.assertIsNone(Spread.of(np.zeros(4, int), 0.5))
+
+
+@needs_shape
+@needs_pillow
+class Separation(InFolder):
+    """What lies between plates that are 12 apart, in a box and in a region."""
+
+    def measured(self, *words):
+        self.assertEqual(self.shapes("volume", "v.npy", "--light", "--separation", "--rule", "none", *words, "-o", "out")[0::2], (0, []))
+        return table("out/volumes.csv")[0]
+
+    def test_what_is_near_to_the_border_is_left_out(self):
+        mask = np.zeros((40, 40, 57), np.uint8)
+        mask[:, :, [*range(12, 15), *range(27, 30), *range(42, 45)]] = 1
+        np.save("v.npy", mask)
+        whole = self.measured()
+        for name, value in (("Tb.Sp", 12), ("Tb.Sp_sd", 0), ("Tb.Sp_max", 13)):
+            self.assertLess(abs(float(whole[name]) - value), 1.2, name)
+        region = np.zeros_like(mask)
+        region[4:36, 4:36, 4:53] = 1
+        np.save("r.npy", region)
+        self.assertLess(abs(float(self.measured("--region", "r.npy")["Tb.Sp"]) - 12), 1.2)
+        self.assertEqual(self.shapes("check", "out")[0], 0)
+        np.save("v.npy", np.pad(np.ones((2, 1, 1), np.uint8), ((0, 0), (4, 4), (4, 4))))
+        self.assertEqual(self.measured()["Tb.Sp"], "")
 
 
 @needs_pillow

@@ -1,6 +1,7 @@
 -- A text is a ball report of a picture exactly where it lists balls whose claims are true and that cover the object.
 -- Stated of texts and pictures; how lines are judged or written belongs elsewhere.
-use Rattle.std.proofs.Common.{◌≡◌, inl, inr, ℕ, zero, suc, ◌<◌, ◌≤◌, refl, ap, sym, ◌∙◌, subst, arith, List, [], ◌∷◌, ◌++◌, length, length-append, append-nil, take, map, pos, Some, Option}
+use Rattle.std.proofs.Common.{◌≡◌, inl, inr, ℕ, zero, suc, ◌<◌, ◌≤◌, refl, ap, sym, ◌∙◌, subst, arith, List, [], ◌∷◌, ◌++◌, length, length-append, append-nil}
+use Rattle.std.proofs.Common.{take, map, pos, Some, Option}
 use Rattle.std.specs.Prelude.{slice_get, All}
 use Rattle.std.specs.Option.{option_map}
 use Rattle.std.proofs.lemmas.List.{append_assoc, length-take-le, map-append, take-map}
@@ -72,7 +73,8 @@ tell_next X Standing.Ended lines (Line.Ball b) t c = absurd c
 tell_next X Standing.Ended lines Line.End t c = absurd c
 
 whole_lines : (X : Picture) (front : List Line) → GoodSoFar (ball_report X) (front ++ Line.End ∷ []) → AreWhole X (front ++ Line.End ∷ [])
-whole_lines X front good = subst (λ s. Tell X s (front ++ Line.End ∷ [])) (reached_push (course X) front Line.End) (told_all (course X) (Tell X) refl (tell_next X) (front ++ Line.End ∷ []) good)
+whole_lines X front good = subst (λ s. Tell X s (front ++ Line.End ∷ [])) (reached_push (course X) front Line.End)
+    (told_all (course X) (Tell X) refl (tell_next X) (front ++ Line.End ∷ []) good)
 
 -- a text that holds shows balls that make up the object
 pub holds_shows : (X : Picture) (text : List ℕ) → Holds (ball_report X) text → BallsShow X text
@@ -91,7 +93,8 @@ holds_shows X text (front, w) =
 
 -- ---- and back
 
-after_balls : (number : ℕ) (front balls : List Ball) → after step (Standing.Listing number front) (map (λ b. Line.Ball b) balls) ≡ Standing.Listing number (front ++ balls)
+after_balls : (number : ℕ) (front balls : List Ball) → after step (Standing.Listing number front) (map (λ b. Line.Ball b) balls) ≡ Standing.Listing number
+    (front ++ balls)
 after_balls number front [] = ap (Standing.Listing number) (sym (append-nil front))
 after_balls number front (b ∷ balls) = after_balls number (front ++ b ∷ []) balls ∙ ap (Standing.Listing number) (append_assoc front (b ∷ []) balls)
 
@@ -100,7 +103,8 @@ module _ (X : Picture) (balls : List Ball) (are : AreBalls X balls) where
   ls = map (λ b. Line.Ball b) balls
 
   -- a line behind the first one is that of a ball after the earlier ones, or the end after all
-  behind_first : (k : ℕ) (l : Line) → slice_get (ls ++ Line.End ∷ []) k ≡ Some l → Claim X (after step (Standing.Listing (length balls) []) (take k (ls ++ Line.End ∷ []))) l
+  behind_first : (k : ℕ) (l : Line) → slice_get (ls ++ Line.End ∷ []) k ≡ Some l
+      → Claim X (after step (Standing.Listing (length balls) []) (take k (ls ++ Line.End ∷ []))) l
   behind_first k l e = elim (get_push ls Line.End k l e) [
     | inl h ↦ (
         let b = ball_there k l h.0 in

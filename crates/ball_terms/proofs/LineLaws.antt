@@ -23,7 +23,8 @@ clean Kind.Balls = refl
 clean _ = refl
 
 forms : (d : ℕ) (k : Kind) → IsForm (form_of d k)
-forms d Kind.Balls = behind_form (codes "1") (behind (kind_word d) (point d ⨾ count)) (literal (codes "1") refl) (behind_form (kind_word d) (point d ⨾ count) (word_kind d) (both_form _ _ (point_form d) count_form))
+forms d Kind.Balls = behind_form (codes "1") (behind (kind_word d) (point d ⨾ count)) (literal (codes "1") refl)
+    (behind_form (kind_word d) (point d ⨾ count) (word_kind d) (both_form _ _ (point_form d) count_form))
 forms d Kind.Ball = both_form _ _ (point_form d) (both_form _ _ (point_form d) (both_form _ _ weight_form (point_form d)))
 forms d Kind.End = nothing_form
 

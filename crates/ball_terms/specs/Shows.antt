@@ -16,7 +16,8 @@ pub record ListsBalls (sides : List ℕ) (text : List ℕ) (balls : List Ball) :
   pub fields : All (spelled (length sides)).IsLine (listing (map pos sides) balls)
   pub text_is : text ≡ text_of (spelled (length sides)) (listing (map pos sides) balls)
 
--- the text lists balls whose claims are true one after another, with a least distance and an own point for each; the object is exactly their union, and without any one of them it is not
+-- the text lists balls whose claims are true one after another, with a least distance and an own point for each; the object is exactly their union, and without
+-- any one of them it is not
 pub record BallsShow (X : Picture) (text : List ℕ) : Type 0 where
   pub balls : List Ball
   pub lists : ListsBalls X.sides text balls

@@ -11,9 +11,9 @@ use Rattle.shape_terms.specs.Contours.{Crack}
 use Rattle.report_terms.specs.Lines.{Line}
 use Rattle.report_terms.specs.ContourLines.{is_contour, contour_groups, point_of}
 use Rattle.report_terms.proofs.ContourGroups.{group_begun, group_more}
-use Rattle.border_terms.specs.Runs.{Run, run_of, run, fair}
-use Rattle.border_terms.specs.Lengths.{contour_length}
-use Rattle.border_terms.specs.Borders.{first_crack, border_of, borders}
+use Rattle.measure_terms.specs.Runs.{Run, run_of, run, fair}
+use Rattle.measure_terms.specs.Lengths.{contour_length}
+use Rattle.measure_terms.specs.Borders.{first_crack, border_of, borders}
 use Rattle.bordering.specs.Kept.{Kept, last_border, closed, begin_with, with_point, with_segment, groups_with, HasBorders}
 
 -- what is kept of a single element
@@ -27,7 +27,8 @@ none_more : (lines : List Line) (l : Line) → is_contour l ≡ false → contou
 none_more [] l n e = cond-false (is_contour l) _ [] n
 none_more (x ∷ lines) l n e = elim (cases_Bool (is_contour x)) [
   | inl y ↦ absurd (let f = sym (cond-true (is_contour x) _ (contour_groups lines) y) ∙ e in cc)
-  | inr f ↦ cond-false (is_contour x) _ (contour_groups (lines ++ l ∷ [])) f ∙ none_more lines l n (sym (cond-false (is_contour x) _ (contour_groups lines) f) ∙ e)
+  | inr f ↦ cond-false (is_contour x) _ (contour_groups (lines ++ l ∷ [])) f
+      ∙ none_more lines l n (sym (cond-false (is_contour x) _ (contour_groups lines) f) ∙ e)
 ]
 
 -- the first crack of a group stays where lines come behind
@@ -54,7 +55,8 @@ closed_borders lines k h = elim (begun_or_not k.begun) [
   | inr n ↦
       let g : contour_groups lines ≡ [] = h.groups ∙ ap (λ o. groups_with o h.closed h.last) n in
       let z = h.none n in
-      let last : option_to_list (last_border k) ≡ [] = ap (λ o. option_to_list (option_map (λ c. record { start = c; length = contour_length k.points k.runs }) o)) n in
+      let last : option_to_list (last_border k) ≡ [] =
+      ap (λ o. option_to_list (option_map (λ c. record { start = c; length = contour_length k.points k.runs }) o)) n in
       let old : k.borders ≡ [] = h.borders ∙ ap (filter_map border_of) z.0 in
       (λ i. old i ++ last i) ∙ sym (ap (filter_map border_of) g)
 ]
@@ -62,7 +64,8 @@ closed_borders lines k h = elim (begun_or_not k.begun) [
 -- ---- one more line
 
 -- it begins a contour
-pub begins_contour : (lines : List Line) (p : Point) (side n m : ℕ) (k : Kept) → HasBorders lines k → HasBorders (lines ++ Line.Contour p side n m ∷ []) (begin_with (record { pixel = p; side = side }) k)
+pub begins_contour : (lines : List Line) (p : Point) (side n m : ℕ) (k : Kept) → HasBorders lines k
+    → HasBorders (lines ++ Line.Contour p side n m ∷ []) (begin_with (record { pixel = p; side = side }) k)
 begins_contour lines p side n m k h = record {
   closed = contour_groups lines;
   last = Line.Contour p side n m ∷ [];
@@ -108,9 +111,11 @@ adds lines l k k' n h same_begun same_borders more nothing = elim (begun_or_not 
 ]
 
 -- it adds nothing
-pub adds_nothing : (lines : List Line) (l : Line) (k : Kept) → is_contour l ≡ false → filter_map point_of (l ∷ []) ≡ [] → filter_map run_of (l ∷ []) ≡ [] → HasBorders lines k → HasBorders (lines ++ l ∷ []) k
+pub adds_nothing : (lines : List Line) (l : Line) (k : Kept) → is_contour l ≡ false → filter_map point_of (l ∷ []) ≡ [] → filter_map run_of (l ∷ []) ≡ []
+    → HasBorders lines k → HasBorders (lines ++ l ∷ []) k
 adds_nothing lines l k n no_point no_run h =
-    adds lines l k k n h refl refl (λ c e. (sym (ap (λ t. k.points ++ t) no_point ∙ append-nil k.points), sym (ap (λ t. k.runs ++ t) no_run ∙ append-nil k.runs))) (λ e. (refl, refl))
+    adds lines l k k n h refl refl
+    (λ c e. (sym (ap (λ t. k.points ++ t) no_point ∙ append-nil k.points), sym (ap (λ t. k.runs ++ t) no_run ∙ append-nil k.runs))) (λ e. (refl, refl))
 
 -- a point of the last contour
 pub adds_point : (lines : List Line) (q : Point) (k : Kept) → HasBorders lines k → HasBorders (lines ++ Line.At q ∷ []) (with_point k q)
@@ -126,10 +131,12 @@ adds_point lines q k h = elim (begun_or_not k.begun) [
 ]
 
 -- the run of the last contour, where its line gives one
-pub adds_segment : (lines : List Line) (b e t : ℕ) (a : List ℤ) (mu : ℤ) (k : Kept) → HasBorders lines k → HasBorders (lines ++ Line.Seg b e t a mu ∷ []) (with_segment k (fair (run b e a)))
+pub adds_segment : (lines : List Line) (b e t : ℕ) (a : List ℤ) (mu : ℤ) (k : Kept) → HasBorders lines k
+    → HasBorders (lines ++ Line.Seg b e t a mu ∷ []) (with_segment k (fair (run b e a)))
 adds_segment lines b e t a mu k h = by_case (fair (run b e a)) (kept_single run_of (Line.Seg b e t a mu))
   where
-    by_case : (o : Option Run) → filter_map run_of (Line.Seg b e t a mu ∷ []) ≡ option_to_list o → HasBorders (lines ++ Line.Seg b e t a mu ∷ []) (with_segment k o)
+    by_case : (o : Option Run) → filter_map run_of (Line.Seg b e t a mu ∷ []) ≡ option_to_list o
+        → HasBorders (lines ++ Line.Seg b e t a mu ∷ []) (with_segment k o)
     by_case None one = adds_nothing lines (Line.Seg b e t a mu) k refl refl one h
     by_case (Some r) one =
         let l = Line.Seg b e t a mu in
@@ -137,7 +144,8 @@ adds_segment lines b e t a mu k h = by_case (fair (run b e a)) (kept_single run_
         elim (begun_or_not k.begun) [
           | inl y ↦
               subst (HasBorders (lines ++ l ∷ [])) (sym (cond-true (is_some k.begun) k' k (ap is_some y.1)))
-              (adds lines l k k' refl h refl refl (λ c f. (sym (append-nil k.points), ap (λ t. k.runs ++ t) (sym one))) (λ f. absurd (let g = sym y.1 ∙ f in cc)))
+              (adds lines l k k' refl h refl refl (λ c f. (sym (append-nil k.points), ap (λ t. k.runs ++ t) (sym one)))
+              (λ f. absurd (let g = sym y.1 ∙ f in cc)))
           | inr z ↦
               subst (HasBorders (lines ++ l ∷ [])) (sym (cond-false (is_some k.begun) k' k (ap is_some z)))
               (adds lines l k k refl h refl refl (λ c f. absurd (let g = sym f ∙ z in cc)) (λ f. (refl, refl)))

@@ -1,6 +1,7 @@
 -- The lengths of steps as they are put along one run after another.
 -- Lists and numbers; the program's loop stands in none.
-use Rattle.std.proofs.Common.{◌≡◌, ◌⊎◌, inl, inr, ◌∙◌, ap, sym, subst, refl, ℕ, ◌+◌, ◌-◌, ◌<◌, ◌≤◌, Bool, true, false, List, [], ◌∷◌, ◌++◌, length, get_or, arith, min}
+use Rattle.std.proofs.Common.{◌≡◌, ◌⊎◌, inl, inr, ◌∙◌, ap, sym, subst, refl, ℕ, ◌+◌, ◌-◌, ◌<◌, ◌≤◌, Bool, true, false, List, [], ◌∷◌, ◌++◌, length, get_or}
+use Rattle.std.proofs.Common.{arith, min}
 use Rattle.std.specs.Prelude.{if◌then◌else◌, sum}
 use Rattle.std.proofs.Math.ListN.{set}
 use Rattle.std.proofs.lemmas.Bool.{cond-true, cond-false}
@@ -12,8 +13,8 @@ use Rattle.std.proofs.lemmas.List.Sums.{sum_by-append}
 use Rattle.std.proofs.lemmas.List.FromFn.{fill_by_all, length-map-range_with_len, get_or-map-range_with_len}
 use Rattle.std.proofs.Common.{get_or-set_other, get_or-set_same, length-set}
 use Rattle.shape_terms.specs.Points.{Point}
-use Rattle.border_terms.specs.Runs.{Run}
-use Rattle.border_terms.specs.Lengths.{share, step_at, share_at, shares_at, shares, passes}
+use Rattle.measure_terms.specs.Runs.{Run}
+use Rattle.measure_terms.specs.Lengths.{share, step_at, share_at, shares_at, shares, passes}
 use Rattle.bordering.specs.declared.cells.Cell.{Cell}
 use Rattle.bordering.specs.Cells.{cell_of, no_cell, cell_with, is_between, ArePassed, AreCells}
 
@@ -54,16 +55,19 @@ passed_more ps r a i old new c low high h e = record {
     split : (k i : ℕ) → (k ≡ i) ⊎ (k ≡ i → ⊥)
     split k i = grind arith
 
-    here : (k : ℕ) → k ≡ i → get_or (set new i c) k no_cell ≡ (if is_between a (i + 1) k then cell_with (get_or old k no_cell) (share r (step_at ps k)) else get_or old k no_cell)
+    here : (k : ℕ) → k ≡ i
+        → get_or (set new i c) k no_cell ≡ (if is_between a (i + 1) k then cell_with (get_or old k no_cell) (share r (step_at ps k)) else get_or old k no_cell)
     here k s =
         let within : i < length new = let g = h.all in omega arith in
         let was : get_or new i no_cell ≡ get_or old i no_cell = h.each i high ∙ cond-false (is_between a i i) _ _ (not_yet a i) in
         let now : get_or (set new i c) i no_cell ≡ c = get_or-set_same new i c no_cell within in
-        subst (λ j. get_or (set new i c) j no_cell ≡ (if is_between a (i + 1) j then cell_with (get_or old j no_cell) (share r (step_at ps j)) else get_or old j no_cell)) (sym s)
+        subst (λ j. get_or (set new i c) j no_cell
+        ≡ (if is_between a (i + 1) j then cell_with (get_or old j no_cell) (share r (step_at ps j)) else get_or old j no_cell)) (sym s)
         (now ∙ e ∙ ap (λ x. cell_with x (share r (step_at ps i))) was ∙ sym (cond-true (is_between a (i + 1) i) _ _ (here_between a i low)))
 
 -- from a place up to another, where what lies beyond the last step was left out
-pub passed_cut : (ps : List Point) (r : Run) (a b n : ℕ) (old new : List Cell) → length old ≡ n → ArePassed ps r (min a (min b n)) (min b n) old new → ArePassed ps r a b old new
+pub passed_cut : (ps : List Point) (r : Run) (a b n : ℕ) (old new : List Cell) → length old ≡ n → ArePassed ps r (min a (min b n)) (min b n) old new
+    → ArePassed ps r a b old new
 passed_cut ps r a b n old new e h = record {
   all = h.all;
   each = λ i l.
@@ -108,7 +112,8 @@ run_put ps runs r old mid new h first second =
         let b = share_at ps r i (i + n) in
         let lo' : i < length old = omega arith in
         let lm' : i < length mid = omega arith in
-        let was : get_or old i no_cell ≡ cell_of xs = ap (λ c. get_or c i no_cell) h ∙ get_or-map-range_with_len (λ j. cell_of (shares ps runs j)) 0 n i i no_cell l (omega arith) in
+        let was : get_or old i no_cell ≡ cell_of xs = ap (λ c. get_or c i no_cell) h ∙ get_or-map-range_with_len (λ j. cell_of (shares ps runs j)) 0 n i i
+        no_cell l (omega arith) in
         let mid_is : get_or mid i no_cell ≡ cell_of (xs ++ a) =
         first.each i lo' ∙ ap (λ c. if passes r i then cell_with c x else c) was ∙ sym (cell_more (passes r i) x xs) in
         let new_is : get_or new i no_cell ≡ cell_of ((xs ++ a) ++ b) =

@@ -5,8 +5,8 @@ use Rattle.std.specs.Prelude.{if◌then◌else◌, filter, sum_by, count_by}
 use Rattle.std.proofs.lemmas.List.{length-map}
 use Rattle.std.proofs.lemmas.List.Sums.{sum_by-cons, count_by-le-length, length-filter}
 use Rattle.std.proofs.lemmas.List.FromFn.{length-map-range_with_len, get_or-map-range_with_len}
-use Rattle.border_terms.specs.Borders as Terms
-use Rattle.border_terms.specs.Objects.{Bounds, is_outer, is_hole, outer_length, hole_length, bounds_of, is_of, object_bounds}
+use Rattle.measure_terms.specs.Borders as Terms
+use Rattle.measure_terms.specs.Objects.{Bounds, is_outer, is_hole, outer_length, hole_length, bounds_of, is_of, object_bounds}
 use Rattle.bordering.specs.declared.border.Border.{Border}
 use Rattle.bordering.specs.Told.{border_told, all_borders}
 use Rattle.bordering.specs.OneMore.{no_bounds, HasRoom, HaveRoom}
@@ -30,11 +30,13 @@ hole_less [] = omega arith
 hole_less (b ∷ bs) = let h = hole_less bs in let s = b.small in omega (arith, h, s, sum_by-cons hole_length (border_told b) (all_borders bs))
 
 -- where fewer than 2^58 borders were put, there is room for one more
-pub room_for_one : (sides labels : List ℕ) (n : ℕ) (bs : List Border) (ts : List Bounds) → ts ≡ object_bounds sides labels n (all_borders bs) → length bs + 1 ≤ 2 ^ 58 → HaveRoom ts
+pub room_for_one : (sides labels : List ℕ) (n : ℕ) (bs : List Border) (ts : List Bounds) → ts ≡ object_bounds sides labels n (all_borders bs)
+    → length bs + 1 ≤ 2 ^ 58 → HaveRoom ts
 room_for_one sides labels n bs ts e few = λ k l.
     let all : length ts ≡ n = ap length e ∙ length-map-range_with_len (λ j. bounds_of (filter (is_of sides labels (j + 1)) (all_borders bs))) 0 n in
     let within : k < n = omega (arith, l, all) in
-    let is : get_or ts k no_bounds ≡ bounds_of (filter (is_of sides labels (k + 1)) (all_borders bs)) = ap (λ c. get_or c k no_bounds) e ∙ get_or-map-range_with_len (λ j. bounds_of (filter (is_of sides labels (j + 1)) (all_borders bs))) 0 n k k no_bounds within (omega arith) in
+    let is : get_or ts k no_bounds ≡ bounds_of (filter (is_of sides labels (k + 1)) (all_borders bs)) = ap (λ c. get_or c k no_bounds) e
+    ∙ get_or-map-range_with_len (λ j. bounds_of (filter (is_of sides labels (j + 1)) (all_borders bs))) 0 n k k no_bounds within (omega arith) in
     subst HasRoom (sym is) (room (is_of sides labels (k + 1)))
   where
     room : (p : Terms.Border → Bool) → HasRoom (bounds_of (filter p (all_borders bs)))

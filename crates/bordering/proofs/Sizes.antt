@@ -1,6 +1,7 @@
 -- How great the lengths of steps, and their sums, may be.
 -- Lists and numbers; the program stands in none.
-use Rattle.std.proofs.Common.{◌≡◌, ◌⊎◌, inl, inr, ◌∙◌, ap, sym, subst, ℕ, zero, suc, ◌+◌, ◌-◌, ◌*◌, ◌%◌, ◌^◌, ◌<◌, ◌≤◌, Bool, true, false, List, [], ◌∷◌, ◌++◌, length, get_or, arith}
+use Rattle.std.proofs.Common.{◌≡◌, ◌⊎◌, inl, inr, ◌∙◌, ap, sym, subst, ℕ, zero, suc, ◌+◌, ◌-◌, ◌*◌, ◌%◌, ◌^◌, ◌<◌, ◌≤◌, Bool, true, false, List, [], ◌∷◌, ◌++◌}
+use Rattle.std.proofs.Common.{length, get_or, arith}
 use Rattle.std.specs.Prelude.{ℤ, ◌-ℤ◌, ◌*ℤ◌, nat_abs, nat_le, ◌&&◌, if◌then◌else◌, sum}
 use Rattle.std.proofs.lemmas.Bool.{cond-true, cond-false, cases_Bool}
 use Rattle.std.proofs.lemmas.Bool.Decides.{nat_tests}
@@ -11,10 +12,10 @@ use Rattle.std.proofs.lemmas.List.FromFn.{length-map-range_with_len, get_or-map-
 use Rattle.std.proofs.lemmas.Nat.{mul-le}
 use Rattle.shape_terms.specs.Points.{Point, coordinate}
 use Rattle.shape_terms.specs.Refutations.{point_at}
-use Rattle.border_terms.specs.Quotients.{root_quotient}
-use Rattle.border_terms.specs.Runs.{Run}
-use Rattle.border_terms.specs.Lengths.{Step, near_step, step_at, weight, norm, share, share_at, shares_at, shares, passes}
-use Rattle.border_terms.proofs.RootFound.{quotient_holds, none_over_zero}
+use Rattle.measure_terms.specs.Quotients.{root_quotient}
+use Rattle.measure_terms.specs.Runs.{Run}
+use Rattle.measure_terms.specs.Lengths.{Step, near_step, step_at, weight, norm, share, share_at, shares_at, shares, passes}
+use Rattle.measure_terms.proofs.QuotientFound.{quotient_holds, none_over_zero}
 use Rattle.bordering.specs.declared.cells.Cell.{Cell}
 use Rattle.bordering.specs.Cells.{cell_of, no_cell, cell_with, is_between, HasRoom, HaveRoom, ArePassed, AreCells}
 
@@ -52,7 +53,8 @@ product x c h =
 root_small : (q : ℕ) → q * q ≤ 2 * 10 ^ 24 → q ≤ 2 ^ 41
 root_small q h = elim (split q) [
   | inl l ↦ l
-  | inr g ↦ (let k : (2 ^ 41 + 1) * (2 ^ 41 + 1) ≤ q * q = mul-le (2 ^ 41 + 1) (2 ^ 41 + 1) q q (omega (arith, g)) (omega (arith, g)) in absurd (omega (arith, h, k)))
+  | inr g ↦ (let k : (2 ^ 41 + 1) * (2 ^ 41 + 1) ≤ q * q = mul-le (2 ^ 41 + 1) (2 ^ 41 + 1) q q (omega (arith, g)) (omega (arith, g)) in
+      absurd (omega (arith, h, k)))
 ]
   where
     split : (q : ℕ) → (q ≤ 2 ^ 41) ⊎ (2 ^ 41 < q)
@@ -107,7 +109,8 @@ share_small ps r i =
   where
     by_norm : (w n : ℕ) → w * w ≤ 2 * n → root_quotient (w * 10 ^ 12) n ≤ 2 ^ 41
     by_norm w zero h = subst (λ k. k ≤ 2 ^ 41) (sym (none_over_zero (w * 10 ^ 12))) (omega arith)
-    by_norm w (suc n) h = quotient_small w (suc n) (root_quotient (w * 10 ^ 12) (suc n)) h (omega arith) (quotient_holds (w * 10 ^ 12) (suc n) (omega arith)).low
+    by_norm w (suc n) h = quotient_small w (suc n) (root_quotient (w * 10 ^ 12) (suc n)) h (omega arith)
+        (quotient_holds (w * 10 ^ 12) (suc n) (omega arith)).low
 
 -- ---- the lengths of a step along all runs
 
@@ -127,7 +130,8 @@ once_small ps r i j = by_test (passes r j) (share r (step_at ps i)) (share_small
 
 all_small : (ps : List Point) (runs : List Run) (i : ℕ) → sum (shares ps runs i) ≤ length (shares ps runs i) * 2 ^ 41
 all_small ps [] i = omega arith
-all_small ps (r ∷ runs) i = both_small (shares_at ps i r) (shares ps runs i) (both_small (share_at ps r i i) (share_at ps r i (i + length ps)) (once_small ps r i i) (once_small ps r i (i + length ps))) (all_small ps runs i)
+all_small ps (r ∷ runs) i = both_small (shares_at ps i r) (shares ps runs i)
+    (both_small (share_at ps r i i) (share_at ps r i (i + length ps)) (once_small ps r i i) (once_small ps r i (i + length ps))) (all_small ps runs i)
 
 -- a run gives at most two
 at_most_once : (ps : List Point) (r : Run) (i j : ℕ) → length (share_at ps r i j) ≤ 1
@@ -156,7 +160,8 @@ pub room_left : (ps : List Point) (runs : List Run) (cells : List Cell) (n : ℕ
 room_left ps runs cells n h e = λ i l.
     let all : length cells ≡ length ps = ap length h ∙ length-map-range_with_len (λ j. cell_of (shares ps runs j)) 0 (length ps) in
     let within : i < length ps = omega (arith, l, all) in
-    let is : get_or cells i no_cell ≡ cell_of (shares ps runs i) = ap (λ c. get_or c i no_cell) h ∙ get_or-map-range_with_len (λ j. cell_of (shares ps runs j)) 0 (length ps) i i no_cell within (omega arith) in
+    let is : get_or cells i no_cell ≡ cell_of (shares ps runs i) = ap (λ c. get_or c i no_cell) h ∙ get_or-map-range_with_len (λ j. cell_of (shares ps runs j))
+    0 (length ps) i i no_cell within (omega arith) in
     let f = all_few ps runs i in
     subst (HasRoom n) (sym is) (record { few = omega (arith, f, e); small = all_small ps runs i })
 

@@ -3,8 +3,8 @@
 use Rattle.std.specs.Prelude.{◌≡◌, ℕ, ◌+◌, ◌*◌, ◌/◌, ◌^◌, ◌<◌, ◌≤◌, nat_le, nat_lt, Bool, ◌&&◌, if◌then◌else◌, List, map, length, sum, slice_index_or}
 use Rattle.std.specs.List.{range_with_len}
 use Rattle.shape_terms.specs.Points.{Point}
-use Rattle.border_terms.specs.Runs.{Run}
-use Rattle.border_terms.specs.Lengths.{share, step_at, shares}
+use Rattle.measure_terms.specs.Runs.{Run}
+use Rattle.measure_terms.specs.Lengths.{share, step_at, shares}
 use Rattle.bordering.specs.declared.cells.Cell.{Cell}
 
 -- some lengths

@@ -6,9 +6,9 @@ use Rattle.shape_terms.specs.Points.{Point}
 use Rattle.shape_terms.specs.Contours.{Crack}
 use Rattle.report_terms.specs.Lines.{Line}
 use Rattle.report_terms.specs.ContourLines.{contour_groups, point_of}
-use Rattle.border_terms.specs.Runs.{Run, run_of}
-use Rattle.border_terms.specs.Lengths.{contour_length}
-use Rattle.border_terms.specs.Borders.{Border, first_crack, border_of}
+use Rattle.measure_terms.specs.Runs.{Run, run_of}
+use Rattle.measure_terms.specs.Lengths.{contour_length}
+use Rattle.measure_terms.specs.Borders.{Border, first_crack, border_of}
 
 -- the borders so far, the first crack of the contour that was begun last, and its points and runs
 pub record Kept : Type 0 where

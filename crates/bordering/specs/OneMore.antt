@@ -1,11 +1,11 @@
 -- What one border more changes of what the borders of objects add up to.
 -- That all borders in turn give the sums of the definitions is a law.
 use Rattle.std.specs.Prelude.{◌≡◌, ℕ, ◌+◌, ◌^◌, ◌<◌, ◌≤◌, ◌==◌, List, length, slice_index_or, if◌then◌else◌}
-use Rattle.border_terms.specs.Borders.{Border}
+use Rattle.measure_terms.specs.Borders.{Border}
 use Rattle.bordering.specs.declared.border.Border as Contours
 use Rattle.bordering.specs.declared.objects.Bounds as Kept
 use Rattle.bordering.specs.Told.{border_told, bounds_told}
-use Rattle.border_terms.specs.Objects.{Bounds, is_outer, is_hole, outer_length, hole_length}
+use Rattle.measure_terms.specs.Objects.{Bounds, is_outer, is_hole, outer_length, hole_length}
 
 -- no border
 abbrev pub no_bounds : Bounds

@@ -7,10 +7,10 @@ use Rattle.shape_terms.specs.Contours.{Crack}
 use Rattle.report_terms.specs.Lines as Terms
 use Rattle.shape_report.specs.declared.line.Line.{Line}
 use Rattle.shape_report.specs.LineOf.{line_of}
-use Rattle.border_terms.specs.Runs as Runs
-use Rattle.border_terms.specs.Lengths as Lengths
-use Rattle.border_terms.specs.Borders as Borders
-use Rattle.border_terms.specs.Objects as Objects
+use Rattle.measure_terms.specs.Runs as Runs
+use Rattle.measure_terms.specs.Lengths as Lengths
+use Rattle.measure_terms.specs.Borders as Borders
+use Rattle.measure_terms.specs.Objects as Objects
 use Rattle.bordering.specs.declared.step.Step.{Step}
 use Rattle.bordering.specs.declared.run.Run.{Run}
 use Rattle.bordering.specs.declared.border.Start.{Start}

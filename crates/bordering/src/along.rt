@@ -1,8 +1,8 @@
 //! The lengths of steps along a run, where the last two that were found are kept.
 //! Steps of a straight run are of two kinds, so that each is found once.
 ghost use Rattle.std.specs.Prelude.{◌≡◌, ◌*◌, ◌^◌};
-ghost use Rattle.border_terms.specs.Quotients.{root_quotient};
-ghost use Rattle.border_terms.specs.Lengths.{norm, share};
+ghost use Rattle.measure_terms.specs.Quotients.{root_quotient};
+ghost use Rattle.measure_terms.specs.Lengths.{norm, share};
 ghost use Rattle.bordering.specs.Told.{run_told, step_told};
 
 use crate::quotient::quotient;

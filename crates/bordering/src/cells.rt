@@ -1,7 +1,7 @@
 //! The lengths of each step of a contour along the runs that pass it, as their sum and number.
 //! How long a contour is in all is told in `length`.
 ghost use Rattle.std.specs.Prelude.{◌≡◌, ◌+◌, ◌-◌, ◌/◌, ◌<◌, ◌∷◌, [], ◌++◌, ℕ, List, length};
-ghost use Rattle.border_terms.specs.Runs as Runs;
+ghost use Rattle.measure_terms.specs.Runs as Runs;
 ghost use Rattle.bordering.specs.Told.{flats, run_told};
 ghost use Rattle.bordering.specs.Cells.{cell_with, HasRoom, HaveRoom, ArePassed, AreCells};
 

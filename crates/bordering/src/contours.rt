@@ -3,7 +3,7 @@
 ghost use Rattle.std.specs.Prelude.{◌≡◌, ◌++◌, ◌∷◌, [], List, IfOk, OnOk};
 ghost use Rattle.std.specs.Option.{option_map};
 ghost use Rattle.report_terms.specs.Lines as Terms;
-ghost use Rattle.border_terms.specs.Borders.{borders as borders_of};
+ghost use Rattle.measure_terms.specs.Borders.{borders as borders_of};
 ghost use Rattle.bordering.specs.Told.{flat, flat_line, crack_told, run_told, all_borders};
 ghost use Rattle.bordering.specs.Kept.{begin_with, closed, with_point, with_segment, HasBorders};
 

@@ -1,17 +1,17 @@
 //! What the contours of a component bound, and which holes a table of objects counts, as laws that callers can cite.
-//! The bodies do nothing: the theorem stands in `jordan_terms`.
+//! The bodies do nothing: the theorem stands in `measure_terms`.
 ghost use Rattle.std.specs.Prelude.{◌≡◌, ℕ, ◌+◌, ◌<◌, Bool, List, length, slice_index};
 ghost use Rattle.shape_terms.specs.Points.{Point, IsPoint, raster_number};
 ghost use Rattle.shape_terms.specs.Adjacency.{Near, Side};
 ghost use Rattle.shape_terms.specs.Pictures.{Picture};
 ghost use Rattle.shape_terms.specs.Contours.{Crack, AreCycles};
 ghost use Rattle.shape_terms.specs.Parts.{InFrame, Object, LabelsObject, NamesParts, HasParts};
-ghost use Rattle.jordan_terms.specs.ComponentContours.{IsComponent, contours_of};
-ghost use Rattle.jordan_terms.specs.Holes.{InHole, inner_contours};
-ghost use Rattle.jordan_terms.specs.Jordan.{Jordan};
-ghost use Rattle.border_terms.specs.Borders as Terms;
-ghost use Rattle.border_terms.specs.Begins.{BeginAsContours};
-ghost use Rattle.border_terms.specs.HolesShown.{HolesShow};
+ghost use Rattle.measure_terms.specs.ComponentContours.{IsComponent, contours_of};
+ghost use Rattle.measure_terms.specs.Holes.{InHole, inner_contours};
+ghost use Rattle.measure_terms.specs.Jordan.{Jordan};
+ghost use Rattle.measure_terms.specs.Borders as Terms;
+ghost use Rattle.measure_terms.specs.Begins.{BeginAsContours};
+ghost use Rattle.measure_terms.specs.HolesShown.{HolesShow};
 
 /// The contours of a component of a flat picture's object bound the components of its complement, one each, in the plane and in
 /// the framed box alike. The inner ones are as many as it has holes, and it has one contour more than holes.

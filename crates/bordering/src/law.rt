@@ -7,12 +7,12 @@ ghost use Rattle.report_terms.specs.Holds.{Holds};
 ghost use Rattle.report_terms.specs.Shows.{content_of};
 ghost use Rattle.report_terms.specs.ContourFacts.{ContourFact, ContoursShow};
 ghost use Rattle.shape_terms.specs.Pictures.{Picture};
-ghost use Rattle.border_terms.specs.Quotients.{IsRootQuotient, root_quotient};
-ghost use Rattle.border_terms.specs.Means.{IsMean};
-ghost use Rattle.border_terms.specs.Lengths.{mean};
-ghost use Rattle.border_terms.specs.Borders.{Border, borders};
-ghost use Rattle.border_terms.specs.Begins.{BeginAsContours};
-ghost use Rattle.border_terms.specs.Shown.{border_shown, HaveLengths, BordersShow};
+ghost use Rattle.measure_terms.specs.Quotients.{IsRootQuotient, root_quotient};
+ghost use Rattle.measure_terms.specs.Means.{IsMean};
+ghost use Rattle.measure_terms.specs.Lengths.{mean};
+ghost use Rattle.measure_terms.specs.Borders.{Border, borders};
+ghost use Rattle.measure_terms.specs.Begins.{BeginAsContours};
+ghost use Rattle.measure_terms.specs.Shown.{border_shown, HaveLengths, BordersShow};
 ghost use Rattle.bordering.specs.Tells.{TellsBorders};
 
 /// The length of a step along a line is the true one rounded down to whole units, and the mean of several is their true mean

@@ -1,7 +1,7 @@
 //! The length of a contour by the runs of its segments.
 //! What a step of it gets of a run is told in `cells`.
 ghost use Rattle.std.specs.Prelude.{◌≡◌, ◌≤◌, ◌^◌, [], IfOk, OnOk};
-ghost use Rattle.border_terms.specs.Lengths.{contour_length};
+ghost use Rattle.measure_terms.specs.Lengths.{contour_length};
 ghost use Rattle.bordering.specs.Told.{flats, runs_told};
 ghost use Rattle.bordering.specs.Cells.{HaveRoom, AreCells, all_means};
 

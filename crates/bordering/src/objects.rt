@@ -2,7 +2,7 @@
 //! Labels come from the caller, one for each point of the box, and 0 for background.
 ghost use Rattle.std.specs.Prelude.{◌≡◌, length, IfOk};
 ghost use Rattle.shape_terms.specs.Points.{sides_of, box_count};
-ghost use Rattle.border_terms.specs.Objects.{label_at, object_bounds as object_bounds_of};
+ghost use Rattle.measure_terms.specs.Objects.{label_at, object_bounds as object_bounds_of};
 ghost use Rattle.bordering.specs.Told.{flat, border_told, all_borders, bounds_told, all_bounds};
 ghost use Rattle.bordering.specs.OneMore.{no_bounds, HasBorderMore, HasRoom, HaveRoom, HasOneMore};
 

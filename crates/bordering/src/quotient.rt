@@ -1,8 +1,8 @@
 //! A number over a square root, rounded down.
 //! The sizes for which nothing overflows stand here.
 ghost use Rattle.std.specs.Prelude.{◌≡◌, ◌*◌, ◌^◌, ◌≤◌};
-ghost use Rattle.border_terms.specs.Quotients.{root_quotient};
-ghost use Rattle.border_terms.specs.Runs.{most_coefficient};
+ghost use Rattle.measure_terms.specs.Quotients.{root_quotient};
+ghost use Rattle.measure_terms.specs.Runs.{most_coefficient};
 
 // The side of a pixel in units.
 const PIXEL: u128 = 1_000_000_000_000;

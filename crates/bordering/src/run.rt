@@ -1,7 +1,7 @@
 //! A run of a contour's steps along a line, as the program keeps it.
 //! Which runs are kept, and what steps weigh along them, is told in `runs`.
 ghost use Rattle.std.specs.Prelude.{◌≤◌, nat_abs};
-ghost use Rattle.border_terms.specs.Runs.{most_coefficient};
+ghost use Rattle.measure_terms.specs.Runs.{most_coefficient};
 
 /// A run of steps along a line: the places of its first and last points, and the coefficients of x and y.
 #[derive(Clone, Copy)]

@@ -3,8 +3,8 @@
 ghost use Rattle.std.specs.Prelude.{◌≡◌, ◌≤◌, ◌*◌, ◌*ℤ◌, ◌-ℤ◌, ◌<◌, nat_abs, take};
 ghost use Rattle.std.specs.Option.{option_map};
 ghost use Rattle.shape_terms.specs.Points.{coordinate};
-ghost use Rattle.border_terms.specs.Runs.{most_coefficient, fair, run};
-ghost use Rattle.border_terms.specs.Lengths.{weight, norm};
+ghost use Rattle.measure_terms.specs.Runs.{most_coefficient, fair, run};
+ghost use Rattle.measure_terms.specs.Lengths.{weight, norm};
 ghost use Rattle.bordering.specs.Told.{run_told, step_told};
 
 use crate::run::Run;

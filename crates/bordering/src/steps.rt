@@ -1,7 +1,7 @@
 //! Steps of a contour, from a point to the next.
 //! What a step weighs along a line is told in `runs`.
 ghost use Rattle.std.specs.Prelude.{◌≡◌, ◌<◌, ◌≤◌, ℤ, pos, nat_abs, ◌-ℤ◌, length};
-ghost use Rattle.border_terms.specs.Lengths.{near_step, step as step_of, step_at};
+ghost use Rattle.measure_terms.specs.Lengths.{near_step, step as step_of, step_at};
 ghost use Rattle.bordering.specs.Told.{flat, flats, step_told};
 
 use crate::step::Step;

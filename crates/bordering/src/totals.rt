@@ -1,7 +1,7 @@
 //! Sums of lengths.
 //! The sizes for which nothing overflows stand here.
 ghost use Rattle.std.specs.Prelude.{◌≡◌, ◌+◌, ◌≤◌, ◌^◌};
-ghost use Rattle.border_terms.specs.Objects.{thousandths};
+ghost use Rattle.measure_terms.specs.Objects.{thousandths};
 ghost use Rattle.bordering.specs.Told.{total_told};
 
 use crate::total::Total;

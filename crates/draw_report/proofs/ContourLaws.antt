@@ -58,13 +58,15 @@ module _ (lines : List Line) (l : Line) (n : is_contour l ≡ false) where
 point_more : (lines : List Line) (p : Point) → contours_of (lines ++ Line.At p ∷ []) ≡ with_point (contours_of lines) p
 point_more lines p = elim (last_of (contour_groups lines)) [
   | inl z ↦ (let b = none lines (Line.At p) refl z in b.1 ∙ ap (λ t. with_point t p) (sym b.0))
-  | inr h ↦ more lines (Line.At p) refl h ∙ sym (at_last (map points_in h.front) (points_in h.last) p) ∙ ap (λ t. with_point t p) (sym (before lines (Line.At p) refl h))
+  | inr h ↦ more lines (Line.At p) refl h ∙ sym (at_last (map points_in h.front) (points_in h.last) p)
+      ∙ ap (λ t. with_point t p) (sym (before lines (Line.At p) refl h))
 ]
 
 -- one more line
 pub contours_more : (lines : List Line) (l : Line) → contours_of (lines ++ l ∷ []) ≡ with_line (contours_of lines) l
 contours_more lines (Line.Contour p side n m) =
-    ap (map points_in) (group_begun is_contour lines (Line.Contour p side n m) refl) ∙ map-append points_in (contour_groups lines) ((Line.Contour p side n m ∷ []) ∷ [])
+    ap (map points_in) (group_begun is_contour lines (Line.Contour p side n m) refl)
+    ∙ map-append points_in (contour_groups lines) ((Line.Contour p side n m ∷ []) ∷ [])
 contours_more lines (Line.At p) = point_more lines p
 contours_more lines (Line.Shape h) = quiet lines (Line.Shape h) refl refl
 contours_more lines l = quiet lines l refl refl

@@ -55,7 +55,8 @@ is_found p (x ∷ ps) q t c = elim (cases_Bool (p x)) [
 
 -- ---- the deepest point of a component
 
-deepest_of : (object : Picture) (square : Point → ℕ) (left : Picture) (ps : List Point) (m : Measures) → AreMeasuresOf object square left ps m → IsDeepestOf square ps (deepest_point m)
+deepest_of : (object : Picture) (square : Point → ℕ) (left : Picture) (ps : List Point) (m : Measures) → AreMeasuresOf object square left ps m
+    → IsDeepestOf square ps (deepest_point m)
 deepest_of object square left ps m a =
     let r = a.depth.reached in
     let e = r.2 in
@@ -72,7 +73,8 @@ deepest_of object square left ps m a =
 
 -- ---- the components of a picture
 
-are_deepest : (X left : Picture) (squares : List ℕ) (rows : List Measures) → MeasuresComponents X squares left rows → AreDeepest X squares (map deepest_point rows)
+are_deepest : (X left : Picture) (squares : List ℕ) (rows : List Measures) → MeasuresComponents X squares left rows
+    → AreDeepest X squares (map deepest_point rows)
 are_deepest X left squares rows m =
     let same = length-map rows deepest_point in
     record {

@@ -17,7 +17,7 @@ use Rattle.piece_terms.proofs.LineLaws.{are_spelled}
 use Rattle.edge_terms.proofs.LineLaws.{spelled_lines}
 use Rattle.draw_report.specs.Parts.{Part, Standing, LineKind, Claim, in_order}
 use Rattle.draw_report.specs.Kinds.{lines_of, IsNoFurther}
-use Rattle.draw_report.specs.Headings.{IsHeadingLine, KindFound, TakesHeading}
+use Rattle.draw_report.specs.Headings.{IsHeadingLine, KindFound}
 use Rattle.draw_report.specs.declared.kind.Kind.{Kind}
 use Rattle.draw_report.specs.declared.kind.Kind.TheVariants as kind
 
@@ -27,7 +27,8 @@ use Rattle.draw_report.specs.declared.kind.Kind.TheVariants as kind
 pub not_so : {P : Type 0} (b : Bool) → b ≡ false → IsTrue b ↔ P → P → ⊥
 not_so b f h p = let e : false ≡ true = sym f ∙ h.1 p in cc
 
-pub none_found : (sides : Point) (bytes : List ℕ) → (IsHeadingLine (lines_of kind.Balls) sides bytes → ⊥) → (IsHeadingLine (lines_of kind.Pieces) sides bytes → ⊥) → (IsHeadingLine (lines_of kind.Edges) sides bytes → ⊥) → KindFound sides bytes None
+pub none_found : (sides : Point) (bytes : List ℕ) → (IsHeadingLine (lines_of kind.Balls) sides bytes → ⊥)
+    → (IsHeadingLine (lines_of kind.Pieces) sides bytes → ⊥) → (IsHeadingLine (lines_of kind.Edges) sides bytes → ⊥) → KindFound sides bytes None
 none_found sides bytes b p e kind.Balls = b
 none_found sides bytes b p e kind.Pieces = p
 none_found sides bytes b p e kind.Edges = e
@@ -46,7 +47,8 @@ none_there last (l ∷ front) e = cc
 
 -- the bytes begin with no heading of a kind
 LacksHeadings : Point → List ℕ → Type 0
-LacksHeadings sides bytes = (k : Kind) (l : (lines_of k).Line) (rest : List ℕ) → StartsWithLine (lines_of k).text bytes l rest → (lines_of k).part l ≡ Part.Heading sides → ⊥
+LacksHeadings sides bytes = (k : Kind) (l : (lines_of k).Line) (rest : List ℕ) → StartsWithLine (lines_of k).text bytes l rest
+    → (lines_of k).part l ≡ Part.Heading sides → ⊥
 
 only_heading : (sides : Point) (p : Part) → Claim sides Standing.Opening p → p ≡ Part.Heading sides
 only_heading sides (Part.Heading s) h = ap Part.Heading h
@@ -82,17 +84,22 @@ pub cut_short : (sides : Point) (old : Option (List ℕ)) → IfTold old IsCutSh
 cut_short sides old h = if_told old (λ bytes t. without_line sides bytes (λ k. no_line_without_lf (lines_of k).text bytes t.no_lf)) h
 
 -- a line that the bytes begin with has the spelling of the first line
-spelled_so : (K : LineKind) → IsSpelled K.text → (bytes line rest : List ℕ) (l : K.Line) (after : List ℕ) → bytes ≡ (line ++ 10 ∷ []) ++ rest → HasNoLf line → StartsWithLine K.text bytes l after → K.text.spelling l ≡ line
+spelled_so : (K : LineKind) → IsSpelled K.text → (bytes line rest : List ℕ) (l : K.Line) (after : List ℕ) → bytes ≡ (line ++ 10 ∷ []) ++ rest → HasNoLf line
+    → StartsWithLine K.text bytes l after → K.text.spelling l ≡ line
 spelled_so K is bytes line rest l after e free s =
-    same_front line (K.text.spelling l) rest after (recursion_from_All (λ c. c ≡ 10 → ⊥) line (All-from_get_or (λ c. c ≡ 10 → ⊥) line 0 (λ k h. free k h))) (is.clean l s.fields)
+    same_front line (K.text.spelling l) rest after (recursion_from_All (λ c. c ≡ 10 → ⊥) line (All-from_get_or (λ c. c ≡ 10 → ⊥) line 0 (λ k h. free k h)))
+    (is.clean l s.fields)
     (sym (e ∙ append_assoc line (10 ∷ []) rest) ∙ s.split)
 
 -- a first line that is no heading
 lacks : (sides : Point) (bytes line rest : List ℕ) → bytes ≡ (line ++ 10 ∷ []) ++ rest → HasNoLf line → KindFound sides line None → LacksHeadings sides bytes
 unfolding LacksHeadings
-lacks sides bytes line rest e free none = λ k l after s h. none k (record { line = l; fields = s.fields; spelled = spelled_so (lines_of k) (kind_spelled k) bytes line rest l after e free s; heading = h })
+lacks sides bytes line rest e free none =
+    λ k l after s h. none k
+    (record { line = l; fields = s.fields; spelled = spelled_so (lines_of k) (kind_spelled k) bytes line rest l after e free s; heading = h })
 
-pub no_heading : (sides : Point) (old new : Option (List ℕ)) (line : List ℕ) (n : ℕ) → TakesLine old new line n → KindFound sides line None → IfTold old (IsNoFurther sides 1)
+pub no_heading : (sides : Point) (old new : Option (List ℕ)) (line : List ℕ) (n : ℕ) → TakesLine old new line n → KindFound sides line None
+    → IfTold old (IsNoFurther sides 1)
 no_heading sides None new line n t none = tt
 no_heading sides (Some bytes) None line n t none = let g = t.taken in cc
 no_heading sides (Some bytes) (Some rest) line n t none =

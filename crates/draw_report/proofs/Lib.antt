@@ -6,7 +6,10 @@ pub mod BorderLaws
 pub mod PathLaws
 pub mod CornerLaws
 pub mod OverLaws
+mod AxesMore
 mod Words
 mod NumbersMade
 mod Deepest
 mod Drawn
+mod MeasuredMade
+mod MeasuresTell

@@ -9,7 +9,8 @@ one_word [] w some one e = absurd (omega arith)
 one_word (x ∷ []) w some one e = ap (λ v. v.items ∷ []) (sym e)
 one_word (x ∷ y ∷ words) w some one e = absurd (omega arith)
 
-pub two_words : {Z : Type 0} (words : List (Vec ℕ Z)) (v w : Vec ℕ Z) → 2 ≤ length words → length words ≤ 2 → v ≡ get_or words 0 v → w ≡ get_or words 1 w → texts words ≡ v.items ∷ w.items ∷ []
+pub two_words : {Z : Type 0} (words : List (Vec ℕ Z)) (v w : Vec ℕ Z) → 2 ≤ length words → length words ≤ 2 → v ≡ get_or words 0 v → w ≡ get_or words 1 w
+    → texts words ≡ v.items ∷ w.items ∷ []
 two_words [] v w some two e f = absurd (omega arith)
 two_words (x ∷ []) v w some two e f = absurd (omega arith)
 two_words (x ∷ y ∷ []) v w some two e f = λ i. (sym e i).items ∷ (sym f i).items ∷ []

@@ -54,7 +54,8 @@ dot_text b = run_text (record { first = b.centre; count = 1 })
 
 -- all centres, each a small square
 abbrev pub centres_layer : List Ball → List ℕ
-centres_layer bs = path (codes "<path transform=\"translate(-.2)\" stroke=\"#D55E00\" stroke-width=\".4\" stroke-dasharray=\".4 .6\" d=\"") (flat_map dot_text bs)
+centres_layer bs = path (codes "<path transform=\"translate(-.2)\" stroke=\"#D55E00\" stroke-width=\".4\" stroke-dasharray=\".4 .6\" d=\"")
+    (flat_map dot_text bs)
 
 -- the circles, and on them the centres
 abbrev pub balls_layer : List Ball → List ℕ

@@ -8,7 +8,7 @@ use Rattle.measure_terms.specs.Measures.{Measures}
 use Rattle.measure_terms.specs.Tables.{IsTable}
 use Rattle.drawing.specs.Svg.{report_layers, drawing, contour_drawing}
 use Rattle.draw_report.specs.Numbers.{deepest_point, number_layer}
-use Rattle.unfolding.specs.Sheets.{sheet}
+use Rattle.drawing.specs.Sheets.{sheet}
 
 -- the bytes are the drawing of these lines about a picture with so many axes
 abbrev pub IsDrawing : ℕ → List Line → List ℕ → Type 0

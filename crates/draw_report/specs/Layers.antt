@@ -16,7 +16,8 @@ use Rattle.draw_report.specs.Circles.{balls_in, balls_layer}
 use Rattle.draw_report.specs.declared.kind.Kind.{Kind}
 use Rattle.draw_report.specs.declared.kind.Kind.TheVariants as kind
 
--- the paths that the stretches of each kind run along, where an analysis has these lines: the contours that it gives, or the corner paths of the object that it tells
+-- the paths that the stretches of each kind run along, where an analysis has these lines: the contours that it gives, or the corner paths of the object that it
+-- tells
 abbrev pub ArePaths : Kind → List Line → List (List Point) → Type 0
 ArePaths kind.Balls lines paths = paths ≡ []
 ArePaths kind.Pieces lines paths = paths ≡ contours_of lines

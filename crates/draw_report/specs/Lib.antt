@@ -17,3 +17,8 @@ pub mod Overs
 pub mod Kept
 pub mod Drawings
 pub mod Holding
+pub mod MeasureLines
+pub mod Measured
+pub mod MeasuresTold
+pub mod MeasureDrawings
+pub mod MeasureHolding

@@ -37,7 +37,8 @@ digit_size w h = 16000 / scale w h
 
 -- the text that opens the layer: digits in purple, with a white outline
 abbrev pub opening : ℕ → List ℕ
-opening size = codes "<g transform=\"scale(.001)\" font-family=\"sans-serif\" font-size=\"" ++ (decimal size ++ codes "\" font-weight=\"bold\" text-anchor=\"middle\" fill=\"#909\" stroke=\"#fff\" stroke-width=\".2em\" paint-order=\"stroke\">\n")
+opening size = codes "<g transform=\"scale(.001)\" font-family=\"sans-serif\" font-size=\""
+    ++ (decimal size ++ codes "\" font-weight=\"bold\" text-anchor=\"middle\" fill=\"#909\" stroke=\"#fff\" stroke-width=\".2em\" paint-order=\"stroke\">\n")
 
 -- the layer on a picture with these sides
 abbrev pub number_layer : List ℕ → List Point → List ℕ

@@ -3,9 +3,9 @@
 use Rattle.std.specs.Prelude.{◌⊎◌, ℕ, List}
 use Rattle.shape_desk.specs.Desk.{DeskState, Rose, IsMissing, Puts, PutsFront}
 use Rattle.shape_desk.specs.Files.{OfFile, IsSilent}
-use Rattle.report_making.specs.Outcomes as Making
-use Rattle.report_making.specs.declared.outcome.Outcome.{Outcome}
-use Rattle.report_making.specs.declared.outcome.Outcome.TheVariants as outcome
+use Rattle.report_lines.specs.Outcomes as Making
+use Rattle.report_lines.specs.declared.outcome.Outcome.{Outcome}
+use Rattle.report_lines.specs.declared.outcome.Outcome.TheVariants as outcome
 use Rattle.draw_report.specs.Answers.{OfFiles, AreDrawnAs, AreNotOver, IsNoAnalysis}
 use Rattle.draw_report.specs.declared.fault.OverFault.{OverFault}
 use Rattle.draw_report.specs.declared.fault.OverFault.TheVariants as fault
@@ -41,6 +41,8 @@ RanOver analysis further old new outcome.Usage = ⊥
 RanOver analysis further old new (outcome.NotReport k) = OfFile old.files analysis (IsNoAnalysis k) × IsSilent old new
 RanOver analysis further old new (outcome.NotOver k) = OfFiles old analysis further (λ a b. AreNotOver a b k) × IsSilent old new
 RanOver analysis further old new outcome.TooLarge = ⊥
+RanOver analysis further old new outcome.NotSolid = ⊥
+RanOver analysis further old new outcome.NotFlat = ⊥
 RanOver analysis further old new outcome.ReadFault = IsUnread analysis further old new × IsSilent old new
 RanOver analysis further old new outcome.WriteFault = CutsOver analysis further old new
 RanOver analysis further old new outcome.NoMemory = IsSilent old new

@@ -58,8 +58,8 @@ fn root(square: u64) -> u128
     (whole + 1) / 2
 }
 
-// Puts a whole number.
-fn put_number(n: u128, svg: &mut Svg) -> Result<(), NoMemory>
+/// Puts a whole number.
+pub(crate) fn put_number(n: u128, svg: &mut Svg) -> Result<(), NoMemory>
     ensures { OnOk result (svg.new ≡ svg.old ++ decimal n) }
 {
     let mut digits = Buffer::new();
@@ -87,8 +87,8 @@ fn put_field(name: &[u8], x: i32, svg: &mut Svg) -> Result<(), NoMemory>
     svg.put(digits.format(x).as_bytes())
 }
 
-// Puts a number of thousandths.
-fn put_thousandths(n: u128, svg: &mut Svg) -> Result<(), NoMemory>
+/// Puts a number of thousandths.
+pub(crate) fn put_thousandths(n: u128, svg: &mut Svg) -> Result<(), NoMemory>
     ensures { OnOk result (svg.new ≡ svg.old ++ thousandths n) }
 {
     put_number(n / 1000, svg)?;

@@ -15,13 +15,11 @@ ghost use Rattle.draw_report.specs.Drawings.{IsNumberedText};
 
 use crate::numbered::Numbered;
 use crate::numbers::put_numbers;
-use drawing::{ContourSketch, FlatSketch, Svg};
+use drawing::{ContourSketch, FlatSketch, Sheet, Svg};
 use measuring::{Measures, Table, measure};
-use report_lines::{Heading, Seen};
-use report_making::Making;
+use report_lines::{Heading, Making, Seen};
 use shape_space::{NoMemory, P2, P3, Sides};
 use std::alloc::Global;
-use unfolding::Sheet;
 
 /// Makes the drawing of a report.
 #[derive(Clone, Copy, Debug, PartialEq, Eq)]
@@ -53,8 +51,8 @@ impl Making for Drawings {
     }
 }
 
-// The table of the objects that lines tell.
-fn table_of(alloc: Global, seen: &Seen<P2>) -> Result<Table, NoMemory>
+/// The table of the objects that lines tell.
+pub(crate) fn table_of(alloc: Global, seen: &Seen<P2>) -> Result<Table, NoMemory>
     ensures { IfOk result (TellsTable seen.now.object seen.now.squares seen.now.left) }
 {
     seen.is_of_box();

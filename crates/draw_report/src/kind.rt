@@ -9,8 +9,8 @@ ghost use Rattle.drawing.specs.Seen.{flat};
 
 use crate::over_line::OverLine;
 use crate::part::Part;
-use edge_forms::EdgeLine;
 use judge_balls::BallLine;
+use judge_edges::EdgeLine;
 use judge_pieces::PieceLine;
 use shape_space::P2;
 

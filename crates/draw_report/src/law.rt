@@ -7,13 +7,15 @@ ghost use Rattle.report_terms.specs.Holds.{Holds};
 ghost use Rattle.report_terms.specs.Lines.{Line};
 ghost use Rattle.report_lines.specs.Reports.{flat, IsReport};
 ghost use Rattle.report_lines.specs.Tells.{StandsIn};
-ghost use Rattle.report_making.specs.Runs.{RanUpTo};
-ghost use Rattle.report_making.specs.Complete.{FileIs, HasNoFault};
-ghost use Rattle.report_making.specs.declared.outcome.Outcome.{Outcome};
-ghost use Rattle.report_making.specs.declared.outcome.Outcome.TheVariants.{Done, TooLarge, NoMemory};
+ghost use Rattle.report_lines.specs.Runs.{RanUpTo, RanFlat};
+ghost use Rattle.report_lines.specs.Complete.{FileIs, HasNoFault};
+ghost use Rattle.report_lines.specs.declared.outcome.Outcome.{Outcome};
+ghost use Rattle.report_lines.specs.declared.outcome.Outcome.TheVariants.{Done, TooLarge, NoMemory};
 ghost use Rattle.drawing.specs.Svg.{drawing, most_drawing};
 ghost use Rattle.draw_report.specs.Drawings.{IsDrawing, IsNumberedDrawing};
+ghost use Rattle.draw_report.specs.MeasureDrawings.{IsMeasuredDrawing};
 ghost use Rattle.draw_report.specs.Holding.{NumbersTell, WritesNumbered};
+ghost use Rattle.draw_report.specs.MeasureHolding.{MeasuresTell, WritesMeasured};
 
 /// Of a report that holds of a flat picture, number k of the drawing stands in the k-th component of the picture, at the first
 /// of its points that lie deepest, by its least squared distances to the background.
@@ -28,6 +30,20 @@ pub fn holding_is_drawn()
     ensures { (X : Subject) (name text : List ℕ) (old new : DeskState) → Holds X text
         → StandsIn flat X.picture → FileIs old.files name (λ bytes. bytes ≡ text)
         → RanUpTo most_drawing IsNumberedDrawing name old new Done → WritesNumbered X text old new }
+{}
+
+/// Of a report that holds of a flat picture, the lines of object k of the drawing with measures are those of the k-th component of
+/// the picture: the axes of the ellipse with its second moments, its Feret diameter and the least width of its hull.
+pub fn holding_is_measured()
+    ensures { (X : Subject) (text bytes : List ℕ) → Holds X text
+        → StandsIn flat X.picture → MeasuresTell X text bytes }
+{}
+
+/// A run of `draw measures` that ends well, for a file whose text holds of a flat picture, has written that drawing.
+pub fn measures_are_drawn()
+    ensures { (X : Subject) (name text : List ℕ) (old new : DeskState) → Holds X text
+        → StandsIn flat X.picture → FileIs old.files name (λ bytes. bytes ≡ text)
+        → RanFlat most_drawing IsMeasuredDrawing name old new Done → WritesMeasured X text old new }
 {}
 
 /// A run of `draw` where no call fails, for a file whose text is the report of a flat picture, tells that the drawing is too

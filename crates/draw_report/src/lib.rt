@@ -4,6 +4,7 @@
 #![tactic(auto)]
 
 mod analysis;
+mod axes;
 mod balls;
 mod borders;
 mod drawings;
@@ -13,6 +14,10 @@ mod further;
 mod gatherer;
 mod kind;
 mod law;
+mod measure_drawing;
+mod measure_layer;
+mod measure_lines;
+mod measured;
 mod numbered;
 mod numbers;
 mod over;
@@ -27,8 +32,12 @@ mod top;
 pub use drawings::{ContourDrawings, Drawings, NumberedDrawings};
 pub use fault::OverFault;
 pub use kind::Kind;
-pub use law::{holding_is_drawn, holding_is_numbered, large_drawings_are_refused};
+pub use law::{
+    holding_is_drawn, holding_is_measured, holding_is_numbered, large_drawings_are_refused,
+    measures_are_drawn,
+};
+pub use measure_drawing::MeasureDrawings;
 pub use numbered::Numbered;
 pub use overlay::overlaid;
-pub use report_making::Outcome;
+pub use report_lines::Outcome;
 pub use top::{USAGE, run};

@@ -2,13 +2,12 @@
 //! What is drawn is known to `overlay`.
 ghost use Rattle.std.specs.Prelude.{◌≡◌};
 ghost use Rattle.shape_desk.specs.Files.{KeepsFiles};
-ghost use Rattle.report_making.specs.Outcomes as Making;
+ghost use Rattle.report_lines.specs.Outcomes as Making;
 ghost use Rattle.draw_report.specs.Overs.{refusal_of, RanOver};
 
 use crate::fault::OverFault;
 use crate::overlay::overlaid;
-use report_lines::ReportFault;
-use report_making::Outcome;
+use report_lines::{Outcome, ReportFault};
 use shape_desk::{Desk, put_all};
 use std::alloc::Global;
 

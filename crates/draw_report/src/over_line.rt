@@ -8,8 +8,8 @@ ghost use Rattle.draw_report.specs.Seen.{part_of};
 ghost use Rattle.draw_report.specs.Ends.{only_ball_end, only_piece_end, only_edge_end};
 
 use crate::part::{Mark, Part};
-use edge_forms::EdgeLine;
 use judge_balls::BallLine;
+use judge_edges::EdgeLine;
 use judge_pieces::PieceLine;
 use report_text::ReportLine;
 use shape_space::P2;

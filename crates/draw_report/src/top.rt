@@ -1,21 +1,24 @@
 //! The top call: the drawing of the report that a word names is written, that of its contours alone, or that of a further report over it.
-//! What each outcome means for the desk stands in `report_making` and in `specs/Overs.antt`.
+//! What each outcome means for the desk stands in `report_lines` and in `specs/Overs.antt`.
 ghost use Rattle.std.specs.Prelude.{◌≡◌, ◌≢◌, ◌↔◌, ◌∷◌, [], ℕ, List};
 ghost use Rattle.shape_desk.specs.Files.{KeepsFiles, texts};
-ghost use Rattle.report_making.specs.Runs.{Ran, RanUpTo};
+ghost use Rattle.report_lines.specs.Runs.{Ran, RanUpTo, RanFlat};
 ghost use Rattle.drawing.specs.Svg.{most_drawing};
 ghost use Rattle.draw_report.specs.Drawings.{IsDrawing, IsNumberedDrawing, IsContourDrawing};
+ghost use Rattle.draw_report.specs.MeasureDrawings.{IsMeasuredDrawing};
 ghost use Rattle.draw_report.specs.Overs.{RanOver};
-ghost use Rattle.draw_report.specs.Words.{labels_word, contours_word, AreNoForm};
+ghost use Rattle.draw_report.specs.Words.{labels_word, contours_word, measures_word, AreNoForm};
 
 use crate::drawings::{ContourDrawings, Drawings, NumberedDrawings};
+use crate::measure_drawing::MeasureDrawings;
 use crate::over::run_over;
-use report_making::{Outcome, run_named, run_up_to};
+use report_lines::{Outcome, run_flat, run_named, run_up_to};
 use shape_desk::Desk;
 use std::alloc::Global;
 
 /// What the program says of words that it does not take.
-pub const USAGE: &str = "usage: shape draw [labels|contours] REPORT, shape draw REPORT FURTHER";
+pub const USAGE: &str =
+    "usage: shape draw [labels|contours|measures] REPORT, shape draw REPORT FURTHER";
 
 // A drawing of a flat picture that is written has so many bytes at most, but for that of its contours alone.
 const MOST_DRAWING: usize = 50_000_000;
@@ -27,7 +30,9 @@ fn run_two<D: Desk>(alloc: Global, word: &[u8], name: &[u8], desk: &mut D) -> Ou
         (D.state desk.old) (D.state desk.new) result }
     ensures contours { word.now ≡ contours_word
         → Ran IsContourDrawing name.now (D.state desk.old) (D.state desk.new) result }
-    ensures over { word.now ≢ labels_word → word.now ≢ contours_word
+    ensures measured { word.now ≡ measures_word → RanFlat most_drawing IsMeasuredDrawing name.now
+        (D.state desk.old) (D.state desk.new) result }
+    ensures over { word.now ≢ labels_word → word.now ≢ contours_word → word.now ≢ measures_word
         → RanOver word.now name.now (D.state desk.old) (D.state desk.new) result }
     ensures kept { KeepsFiles (D.state desk.old) (D.state desk.new) }
 {
@@ -35,6 +40,8 @@ fn run_two<D: Desk>(alloc: Global, word: &[u8], name: &[u8], desk: &mut D) -> Ou
         run_up_to(alloc, &NumberedDrawings, MOST_DRAWING, name, desk)
     } else if word == b"contours".as_slice() {
         run_named(alloc, &ContourDrawings, name, desk)
+    } else if word == b"measures".as_slice() {
+        run_flat(alloc, &MeasureDrawings, MOST_DRAWING, name, desk)
     } else {
         run_over(alloc, word, name, desk)
     }
@@ -42,9 +49,10 @@ fn run_two<D: Desk>(alloc: Global, word: &[u8], name: &[u8], desk: &mut D) -> Ou
 
 /// Does what the words of a command line say, without the program's name. One word is the name of a report's file, and its
 /// drawing is written; of a flat picture with the numbers of its objects, where the word `labels` stands before, and without
-/// the object and the skeleton, where the word `contours` stands before. Any other two words are the names of an analysis of a
+/// the object and the skeleton, where the word `contours` stands before, and with the measures of its objects as lines, where
+/// the word `measures` does: then the report of a volume is refused. Any other two words are the names of an analysis of a
 /// flat picture and of a further report about it, which is drawn over its object; an analysis in a file `labels` is named
-/// `./labels` there, and one in a file `contours` is named `./contours`.
+/// `./labels` there, and so are `./contours` and `./measures`.
 ///
 /// A drawing of a flat picture's report with more than 50,000,000 bytes is not written, but for that of its contours alone.
 ///
@@ -61,8 +69,11 @@ pub fn run<D: Desk>(alloc: Global, words: &[Vec<u8>], desk: &mut D) -> Outcome
         (D.state desk.old) (D.state desk.new) result }
     ensures contours { (name : List ℕ) → texts words.now ≡ contours_word ∷ name ∷ []
         → Ran IsContourDrawing name (D.state desk.old) (D.state desk.new) result }
+    ensures measured { (name : List ℕ) → texts words.now ≡ measures_word ∷ name ∷ []
+        → RanFlat most_drawing IsMeasuredDrawing name
+        (D.state desk.old) (D.state desk.new) result }
     ensures over { (analysis further : List ℕ) → texts words.now ≡ analysis ∷ further ∷ []
-        → analysis ≢ labels_word → analysis ≢ contours_word
+        → analysis ≢ labels_word → analysis ≢ contours_word → analysis ≢ measures_word
         → RanOver analysis further (D.state desk.old) (D.state desk.new) result }
     ensures kept { KeepsFiles (D.state desk.old) (D.state desk.new) }
 {

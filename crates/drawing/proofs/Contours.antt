@@ -1,6 +1,7 @@
 -- The contours that are kept while the lines come: what one more line changes.
 -- Laws of lines and of what is kept; the program stands in none.
-use Rattle.std.proofs.Common.{◌≡◌, inl, inr, ℕ, suc, ◌+◌, ◌<◌, Bool, true, false, List, [], ◌∷◌, ◌++◌, length, get_or, drop, drop-cons, refl, ap, sym, subst, ◌∙◌, arith}
+use Rattle.std.proofs.Common.{◌≡◌, inl, inr, ℕ, suc, ◌+◌, ◌<◌, Bool, true, false, List, [], ◌∷◌, ◌++◌, length, get_or, drop, drop-cons, refl, ap, sym, subst}
+use Rattle.std.proofs.Common.{◌∙◌, arith}
 use Rattle.std.specs.Prelude.{ℤ, not, filter, filter_map, flat_map}
 use Rattle.std.specs.Option.{option_to_list}
 use Rattle.std.proofs.lemmas.Bool.{cond-true, cond-false, cases_Bool}
@@ -21,12 +22,14 @@ use Rattle.drawing.specs.Standing.{HasOutlines}
 
 -- of the stretches from a place on, the first gives its stroke
 pub along_more : (p : Stroke → Bool) (points : List Point) (even : Bool) (ss : List Stretch) (i : ℕ) (d : Stretch) → i < length ss
-    → filter p (strokes_along points even (all_stretches (drop i ss))) ≡ filter p (option_to_list (stroke_of points even (stretch (get_or ss i d)))) ++ filter p (strokes_along points (not even) (all_stretches (drop (i + 1) ss)))
+    → filter p (strokes_along points even (all_stretches (drop i ss))) ≡ filter p (option_to_list (stroke_of points even (stretch (get_or ss i d))))
+    ++ filter p (strokes_along points (not even) (all_stretches (drop (i + 1) ss)))
 along_more p points even ss i d within =
     let next : suc i ≡ i + 1 = omega arith in
     ap (λ t. filter p (strokes_along points even (all_stretches t))) (drop-cons ss i d within)
     ∙ filter-append p (option_to_list (stroke_of points even (stretch (get_or ss i d)))) (strokes_along points (not even) (all_stretches (drop (suc i) ss)))
-    ∙ ap (λ j. filter p (option_to_list (stroke_of points even (stretch (get_or ss i d)))) ++ filter p (strokes_along points (not even) (all_stretches (drop j ss)))) next
+    ∙ ap (λ j. filter p (option_to_list (stroke_of points even (stretch (get_or ss i d))))
+    ++ filter p (strokes_along points (not even) (all_stretches (drop j ss)))) next
 
 -- ---- groups
 
@@ -35,7 +38,8 @@ pub none_more : (lines : List Line) (l : Line) → is_contour l ≡ false → co
 none_more [] l n e = cond-false (is_contour l) _ [] n
 none_more (x ∷ lines) l n e = elim (cases_Bool (is_contour x)) [
   | inl y ↦ absurd (let f = sym (cond-true (is_contour x) _ (contour_groups lines) y) ∙ e in cc)
-  | inr f ↦ cond-false (is_contour x) _ (contour_groups (lines ++ l ∷ [])) f ∙ none_more lines l n (sym (cond-false (is_contour x) _ (contour_groups lines) f) ∙ e)
+  | inr f ↦ cond-false (is_contour x) _ (contour_groups (lines ++ l ∷ [])) f
+      ∙ none_more lines l n (sym (cond-false (is_contour x) _ (contour_groups lines) f) ∙ e)
 ]
 
 -- the strokes of all contours stand together when the last is closed
@@ -48,7 +52,8 @@ closed_strokes sides lines k h =
     all ∙ ap (filter p) (elim (cases_Bool k.begun) [
       | inl y ↦
           let g : contour_groups lines ≡ h.closed ++ h.last ∷ [] = h.groups ∙ cond-true k.begun (h.closed ++ h.last ∷ []) [] y in
-          sym (ap (flat_map contour_strokes) g ∙ flat_map-append contour_strokes h.closed (h.last ∷ []) ∙ ap (λ t. flat_map contour_strokes h.closed ++ t) (append-nil (contour_strokes h.last)))
+          sym (ap (flat_map contour_strokes) g ∙ flat_map-append contour_strokes h.closed (h.last ∷ [])
+          ∙ ap (λ t. flat_map contour_strokes h.closed ++ t) (append-nil (contour_strokes h.last)))
       | inr n ↦
           let g : contour_groups lines ≡ [] = h.groups ∙ cond-false k.begun (h.closed ++ h.last ∷ []) [] n in
           let z = h.none n in
@@ -58,7 +63,8 @@ closed_strokes sides lines k h =
 -- ---- one more line
 
 -- it begins a contour
-pub begins_contour : (sides : List ℕ) (lines : List Line) (l : Line) (k : Kept) → is_contour l ≡ true → filter_map point_of (l ∷ []) ≡ [] → filter_map segment_of (l ∷ []) ≡ [] → HasOutlines sides lines k → HasOutlines sides (lines ++ l ∷ []) (record (closed sides k) { begun = true })
+pub begins_contour : (sides : List ℕ) (lines : List Line) (l : Line) (k : Kept) → is_contour l ≡ true → filter_map point_of (l ∷ []) ≡ []
+    → filter_map segment_of (l ∷ []) ≡ [] → HasOutlines sides lines k → HasOutlines sides (lines ++ l ∷ []) (record (closed sides k) { begun = true })
 begins_contour sides lines l k y no_point no_segment h = record {
   closed = contour_groups lines;
   last = l ∷ [];
@@ -70,8 +76,10 @@ begins_contour sides lines l k y no_point no_segment h = record {
 }
 
 -- it begins none, and adds these points and stretches to the last one
-pub adds : (sides : List ℕ) (lines : List Line) (l : Line) (k k' : Kept) → is_contour l ≡ false → HasOutlines sides lines k → k'.begun ≡ k.begun → k'.strokes ≡ k.strokes
-    → (k.begun ≡ true → k'.points ≡ k.points ++ filter_map point_of (l ∷ [])) → (k.begun ≡ true → k'.stretches ≡ k.stretches ++ stretches_of (filter_map segment_of (l ∷ [])))
+pub adds : (sides : List ℕ) (lines : List Line) (l : Line) (k k' : Kept) → is_contour l ≡ false → HasOutlines sides lines k → k'.begun ≡ k.begun
+    → k'.strokes ≡ k.strokes
+    → (k.begun ≡ true → k'.points ≡ k.points ++ filter_map point_of (l ∷ []))
+    → (k.begun ≡ true → k'.stretches ≡ k.stretches ++ stretches_of (filter_map segment_of (l ∷ [])))
     → (k.begun ≡ false → (k'.points ≡ k.points) × (k'.stretches ≡ k.stretches)) → HasOutlines sides (lines ++ l ∷ []) k'
 adds sides lines l k k' n h same_begun same_strokes points stretches nothing = elim (cases_Bool k.begun) [
   | inl y ↦
@@ -83,7 +91,8 @@ adds sides lines l k k' n h same_begun same_strokes points stretches nothing = e
         strokes = same_strokes ∙ h.strokes;
         points = points y ∙ ap (λ t. t ++ filter_map point_of (l ∷ [])) h.points ∙ sym (filter_map-append point_of h.last (l ∷ []));
         stretches = stretches y ∙ ap (λ t. t ++ stretches_of (filter_map segment_of (l ∷ []))) h.stretches
-            ∙ sym (ap stretches_of (filter_map-append segment_of h.last (l ∷ [])) ∙ map-append (λ (s : Segment). s.stretch) (filter_map segment_of h.last) (filter_map segment_of (l ∷ [])));
+            ∙ sym (ap stretches_of (filter_map-append segment_of h.last (l ∷ [])) ∙ map-append (λ (s : Segment). s.stretch) (filter_map segment_of h.last)
+            (filter_map segment_of (l ∷ [])));
         none = λ f. absurd (let e = sym (same_begun ∙ y) ∙ f in cc);
       }
   | inr f ↦
@@ -101,12 +110,15 @@ adds sides lines l k k' n h same_begun same_strokes points stretches nothing = e
 ]
 
 -- it adds nothing
-pub adds_nothing : (sides : List ℕ) (lines : List Line) (l : Line) (k : Kept) → is_contour l ≡ false → filter_map point_of (l ∷ []) ≡ [] → filter_map segment_of (l ∷ []) ≡ [] → HasOutlines sides lines k → HasOutlines sides (lines ++ l ∷ []) k
+pub adds_nothing : (sides : List ℕ) (lines : List Line) (l : Line) (k : Kept) → is_contour l ≡ false → filter_map point_of (l ∷ []) ≡ []
+    → filter_map segment_of (l ∷ []) ≡ [] → HasOutlines sides lines k → HasOutlines sides (lines ++ l ∷ []) k
 adds_nothing sides lines l k n no_point no_segment h =
-    adds sides lines l k k n h refl refl (λ y. sym (ap (λ t. k.points ++ t) no_point ∙ append-nil k.points)) (λ y. sym (ap (λ t. k.stretches ++ stretches_of t) no_segment ∙ append-nil k.stretches)) (λ f. (refl, refl))
+    adds sides lines l k k n h refl refl (λ y. sym (ap (λ t. k.points ++ t) no_point ∙ append-nil k.points))
+    (λ y. sym (ap (λ t. k.stretches ++ stretches_of t) no_segment ∙ append-nil k.stretches)) (λ f. (refl, refl))
 
 -- a point of the last contour
-pub adds_point : (sides : List ℕ) (lines : List Line) (q : Point) (k : Kept) → HasOutlines sides lines k → HasOutlines sides (lines ++ Line.At q ∷ []) (with_point k q)
+pub adds_point : (sides : List ℕ) (lines : List Line) (q : Point) (k : Kept) → HasOutlines sides lines k
+    → HasOutlines sides (lines ++ Line.At q ∷ []) (with_point k q)
 adds_point sides lines q k h = elim (cases_Bool k.begun) [
   | inl y ↦
       let k' : Kept = record k { points = k.points ++ q ∷ [] } in
@@ -119,7 +131,8 @@ adds_point sides lines q k h = elim (cases_Bool k.begun) [
 ]
 
 -- a stretch of the last contour
-pub adds_stretch : (sides : List ℕ) (lines : List Line) (b e t : ℕ) (a : List ℤ) (mu : ℤ) (k : Kept) → HasOutlines sides lines k → HasOutlines sides (lines ++ Line.Seg b e t a mu ∷ []) (with_stretch k (record { first = b; last = e }))
+pub adds_stretch : (sides : List ℕ) (lines : List Line) (b e t : ℕ) (a : List ℤ) (mu : ℤ) (k : Kept) → HasOutlines sides lines k
+    → HasOutlines sides (lines ++ Line.Seg b e t a mu ∷ []) (with_stretch k (record { first = b; last = e }))
 adds_stretch sides lines b e t a mu k h = elim (cases_Bool k.begun) [
   | inl y ↦
       let k' : Kept = record k { stretches = k.stretches ++ record { first = b; last = e } ∷ [] } in
@@ -128,5 +141,6 @@ adds_stretch sides lines b e t a mu k h = elim (cases_Bool k.begun) [
   | inr n ↦
       let k' : Kept = record k { stretches = k.stretches ++ record { first = b; last = e } ∷ [] } in
       subst (HasOutlines sides (lines ++ Line.Seg b e t a mu ∷ [])) (sym (cond-false k.begun k' k n))
-      (adds sides lines (Line.Seg b e t a mu) k k refl h refl refl (λ y. absurd (let e = sym y ∙ n in cc)) (λ y. absurd (let e = sym y ∙ n in cc)) (λ f. (refl, refl)))
+      (adds sides lines (Line.Seg b e t a mu) k k refl h refl refl (λ y. absurd (let e = sym y ∙ n in cc)) (λ y. absurd (let e = sym y ∙ n in cc))
+      (λ f. (refl, refl)))
 ]

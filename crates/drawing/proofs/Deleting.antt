@@ -35,7 +35,8 @@ or_true false b e = e
 deleted_same : (lines : List Line) (l : Line) (p : Point) → filter_map deleted_point (l ∷ []) ≡ [] → is_deleted (lines ++ l ∷ []) p ≡ is_deleted lines p
 deleted_same lines l p e = ap (list_any (λ q. pointwise int_eq p q)) (filter_map-same deleted_point lines l e)
 
-deleted_push : (lines : List Line) (q p : Point) → is_deleted (lines ++ Line.Del q ∷ []) p ≡ (is_deleted lines p || list_any (λ r. pointwise int_eq p r) (q ∷ []))
+deleted_push : (lines : List Line) (q p : Point)
+    → is_deleted (lines ++ Line.Del q ∷ []) p ≡ (is_deleted lines p || list_any (λ r. pointwise int_eq p r) (q ∷ []))
 deleted_push lines q p =
     ap (list_any (λ r. pointwise int_eq p r)) (filter_map-push deleted_point lines (Line.Del q) q refl)
     ∙ list_any-append (λ r. pointwise int_eq p r) (filter_map deleted_point lines) (q ∷ [])
@@ -60,11 +61,13 @@ pub none_deleted : (sides : List ℕ) → length sides ≡ 2 → HasDeleted side
 none_deleted sides two = record {
   picture = record { axes = two; filled = length-replicate (box_count sides) false };
   box = refl;
-  value = λ p h. ap (λ b. b && get_or (replicate (box_count sides) false) (raster_number sides p) false) h ∙ all_false (box_count sides) (raster_number sides p);
+  value = λ p h. ap (λ b. b && get_or (replicate (box_count sides) false) (raster_number sides p) false) h
+      ∙ all_false (box_count sides) (raster_number sides p);
 }
 
 -- a line that deletes no point
-pub keeps_deleted : (sides : List ℕ) (lines : List Line) (l : Line) (X : Picture) → filter_map deleted_point (l ∷ []) ≡ [] → HasDeleted sides lines X → HasDeleted sides (lines ++ l ∷ []) X
+pub keeps_deleted : (sides : List ℕ) (lines : List Line) (l : Line) (X : Picture) → filter_map deleted_point (l ∷ []) ≡ [] → HasDeleted sides lines X
+    → HasDeleted sides (lines ++ l ∷ []) X
 keeps_deleted sides lines l X e h = record {
   picture = h.picture;
   box = h.box;
@@ -72,21 +75,26 @@ keeps_deleted sides lines l X e h = record {
 }
 
 -- a line that deletes a point outside the box
-pub deletes_outside : (sides : List ℕ) (lines : List Line) (q : Point) (X : Picture) → in_box X.sides q ≡ false → HasDeleted sides lines X → HasDeleted sides (lines ++ Line.Del q ∷ []) X
+pub deletes_outside : (sides : List ℕ) (lines : List Line) (q : Point) (X : Picture) → in_box X.sides q ≡ false → HasDeleted sides lines X
+    → HasDeleted sides (lines ++ Line.Del q ∷ []) X
 deletes_outside sides lines q X out h = record {
   picture = h.picture;
   box = h.box;
-  value = λ p i. h.value p i ∙ sym (deleted_other lines q p (λ e. let f : in_box X.sides q ≡ true = ap (λ s. in_box s q) h.box ∙ ap (in_box sides) (sym e) ∙ i in let z = sym f ∙ out in cc));
+  value = λ p i. h.value p i
+      ∙ sym (deleted_other lines q p (λ e. let f : in_box X.sides q ≡ true = ap (λ s. in_box s q) h.box ∙ ap (in_box sides) (sym e) ∙ i in let z = sym f
+      ∙ out in cc));
 }
 
 -- a line that deletes a point of the box
-pub deletes : (sides : List ℕ) (lines : List Line) (q : Point) (X : Picture) → IsTrue (in_box X.sides q) → HasDeleted sides lines X → HasDeleted sides (lines ++ Line.Del q ∷ []) (with_value X q true)
+pub deletes : (sides : List ℕ) (lines : List Line) (q : Point) (X : Picture) → IsTrue (in_box X.sides q) → HasDeleted sides lines X
+    → HasDeleted sides (lines ++ Line.Del q ∷ []) (with_value X q true)
 deletes sides lines q X inside h = record {
   picture = with_value_picture 2 X q true h.picture;
   box = h.box;
   value = λ p i. elim (cases_Bool (pointwise int_eq p q)) [
     | inl y ↦ let e = same_only p q y in ap (at (with_value X q true)) e ∙ value_there X q true h.picture.filled inside ∙ sym (deleted_there lines q p e)
-    | inr f ↦ let n : p ≢ q = λ e. (let z = sym (same_yes p q e) ∙ f in cc) in value_elsewhere X q p true inside n ∙ h.value p i ∙ sym (deleted_other lines q p n)
+    | inr f ↦ let n : p ≢ q = λ e. (let z = sym (same_yes p q e) ∙ f in cc) in value_elsewhere X q p true inside n ∙ h.value p i
+        ∙ sym (deleted_other lines q p n)
   ];
 }
 
@@ -101,12 +109,15 @@ filtered_in : (sides : List ℕ) (xs : List Pixel) → AllIn sides (filter (λ x
 unfolding AllIn
 filtered_in sides [] = tt
 filtered_in sides (x ∷ xs) = elim (cases_Bool (in_box sides x.point)) [
-  | inl y ↦ subst (AllIn sides) (sym (cond-true (in_box sides x.point) (x ∷ filter (λ z. in_box sides z.point) xs) (filter (λ z. in_box sides z.point) xs) y)) (y, filtered_in sides xs)
-  | inr n ↦ subst (AllIn sides) (sym (cond-false (in_box sides x.point) (x ∷ filter (λ z. in_box sides z.point) xs) (filter (λ z. in_box sides z.point) xs) n)) (filtered_in sides xs)
+  | inl y ↦ subst (AllIn sides) (sym (cond-true (in_box sides x.point) (x ∷ filter (λ z. in_box sides z.point) xs) (filter (λ z. in_box sides z.point) xs) y))
+      (y, filtered_in sides xs)
+  | inr n ↦ subst (AllIn sides) (sym (cond-false (in_box sides x.point) (x ∷ filter (λ z. in_box sides z.point) xs) (filter (λ z. in_box sides z.point) xs) n))
+      (filtered_in sides xs)
 ]
 
 points_left : (sides : List ℕ) (lines : List Line) (X : Picture) (xs : List Program.Pixel) → HasDeleted sides lines X → AllIn sides (all_pixels xs)
-    → flats (filter (λ p. not (at X (flat p))) (map (λ (x : Program.Pixel). x.point) xs)) ≡ filter (λ p. not (is_deleted lines p)) (map (λ (x : Pixel). x.point) (all_pixels xs))
+    → flats (filter (λ p. not (at X (flat p))) (map (λ (x : Program.Pixel). x.point) xs)) ≡ filter (λ p. not (is_deleted lines p))
+    (map (λ (x : Pixel). x.point) (all_pixels xs))
 unfolding AllIn
 points_left sides lines X [] h all = refl
 points_left sides lines X (x ∷ xs) h all =

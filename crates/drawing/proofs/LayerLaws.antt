@@ -22,7 +22,8 @@ pub four : (s₀ s₁ s₂ s₃ s₄ a b c d : List ℕ) → s₁ ≡ s₀ ++ a 
 four s₀ s₁ s₂ s₃ s₄ a b c d p q r t =
     three s₀ s₁ s₂ s₄ a b (c ++ d) p q (t ∙ ap (λ u. u ++ d) r ∙ append_assoc s₂ c d)
 
-pub five : (s₀ s₁ s₂ s₃ s₄ s₅ a b c d e : List ℕ) → s₁ ≡ s₀ ++ a → s₂ ≡ s₁ ++ b → s₃ ≡ s₂ ++ c → s₄ ≡ s₃ ++ d → s₅ ≡ s₄ ++ e → s₅ ≡ s₀ ++ (a ++ (b ++ (c ++ (d ++ e))))
+pub five : (s₀ s₁ s₂ s₃ s₄ s₅ a b c d e : List ℕ) → s₁ ≡ s₀ ++ a → s₂ ≡ s₁ ++ b → s₃ ≡ s₂ ++ c → s₄ ≡ s₃ ++ d → s₅ ≡ s₄ ++ e
+    → s₅ ≡ s₀ ++ (a ++ (b ++ (c ++ (d ++ e))))
 five s₀ s₁ s₂ s₃ s₄ s₅ a b c d e p q r t u =
     four s₀ s₁ s₂ s₃ s₅ a b c (d ++ e) p q r (u ∙ ap (λ v. v ++ e) t ∙ append_assoc s₃ d e)
 
@@ -43,11 +44,17 @@ pub points_seen : (d : ℕ) (xs : List Pixel) → flats (map (λ (x : Pixel). x.
 points_seen d [] = refl
 points_seen d (x ∷ xs) = elim (cases_Bool (x.depth == d)) [
   | inl y ↦
-      ap (λ t. flats (map (λ (x : Pixel). x.point) t)) (cond-true (x.depth == d) (x ∷ filter (λ (x : Pixel). x.depth == d) xs) (filter (λ (x : Pixel). x.depth == d) xs) y)
+      ap (λ t. flats (map (λ (x : Pixel). x.point) t))
+      (cond-true (x.depth == d) (x ∷ filter (λ (x : Pixel). x.depth == d) xs) (filter (λ (x : Pixel). x.depth == d) xs) y)
       ∙ ap (λ t. flat x.point ∷ t) (points_seen d xs)
-      ∙ ap (λ t. map (λ (x : Object.Pixel). x.point) t) (sym (cond-true (x.depth == d) (pixel x ∷ filter (λ (x : Object.Pixel). x.depth == d) (all_pixels xs)) (filter (λ (x : Object.Pixel). x.depth == d) (all_pixels xs)) y))
+      ∙ ap (λ t. map (λ (x : Object.Pixel). x.point) t)
+      (sym (cond-true (x.depth == d) (pixel x ∷ filter (λ (x : Object.Pixel). x.depth == d) (all_pixels xs))
+      (filter (λ (x : Object.Pixel). x.depth == d) (all_pixels xs)) y))
   | inr n ↦
-      ap (λ t. flats (map (λ (x : Pixel). x.point) t)) (cond-false (x.depth == d) (x ∷ filter (λ (x : Pixel). x.depth == d) xs) (filter (λ (x : Pixel). x.depth == d) xs) n)
+      ap (λ t. flats (map (λ (x : Pixel). x.point) t))
+      (cond-false (x.depth == d) (x ∷ filter (λ (x : Pixel). x.depth == d) xs) (filter (λ (x : Pixel). x.depth == d) xs) n)
       ∙ points_seen d xs
-      ∙ ap (λ t. map (λ (x : Object.Pixel). x.point) t) (sym (cond-false (x.depth == d) (pixel x ∷ filter (λ (x : Object.Pixel). x.depth == d) (all_pixels xs)) (filter (λ (x : Object.Pixel). x.depth == d) (all_pixels xs)) n))
+      ∙ ap (λ t. map (λ (x : Object.Pixel). x.point) t)
+      (sym (cond-false (x.depth == d) (pixel x ∷ filter (λ (x : Object.Pixel). x.depth == d) (all_pixels xs))
+      (filter (λ (x : Object.Pixel). x.depth == d) (all_pixels xs)) n))
 ]

@@ -1,3 +1,7 @@
+pub mod CanvasLaws
+pub mod DabLaws
+pub mod NearestLaws
+pub mod PlaceLaws
 pub mod RunLaws
 pub mod LayerLaws
 pub mod Contours

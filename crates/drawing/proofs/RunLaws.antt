@@ -1,6 +1,7 @@
 -- The run that points begin with: how it is found by going from point to point.
 -- Laws of lists of points alone.
-use Rattle.std.proofs.Common.{◌≡◌, ℕ, zero, suc, ◌+◌, ◌-◌, ◌<◌, ◌≤◌, Bool, true, false, List, [], ◌∷◌, ◌++◌, length, get_or, drop, add-zero, refl, ap, sym, subst, ◌∙◌, arith}
+use Rattle.std.proofs.Common.{◌≡◌, ℕ, zero, suc, ◌+◌, ◌-◌, ◌<◌, ◌≤◌, Bool, true, false, List, [], ◌∷◌, ◌++◌, length, get_or, drop, add-zero, refl, ap, sym}
+use Rattle.std.proofs.Common.{subst, ◌∙◌, arith}
 use Rattle.std.specs.Prelude.{flat_map}
 use Rattle.std.proofs.lemmas.Bool.{cond-true, cond-false}
 use Rattle.std.proofs.lemmas.List.{get_or-map, length-drop, get_or-drop, drop-map, drop-drop}
@@ -24,14 +25,28 @@ before_first p [] = (1, [], refl)
 before_first p (r ∷ rs) = by_test (is_next p r.first) refl
   where
     by_test : (b : Bool) → is_next p r.first ≡ b → (c : ℕ) × (t : List Run) × (before p (r ∷ rs) ≡ record { first = p; count = c } ∷ t)
-    by_test true e = (r.count + 1, rs, cond-true (is_next p r.first) (record { first = p; count = r.count + 1 } ∷ rs) (record { first = p; count = 1 } ∷ (r ∷ rs)) e)
-    by_test false e = (1, r ∷ rs, cond-false (is_next p r.first) (record { first = p; count = r.count + 1 } ∷ rs) (record { first = p; count = 1 } ∷ (r ∷ rs)) e)
+    by_test true e = (
+      r.count + 1,
+      rs,
+      cond-true (is_next p r.first) (record { first = p; count = r.count + 1 } ∷ rs)
+          (record { first = p; count = 1 } ∷ (r ∷ rs)) e,
+    )
+    by_test false e = (
+      1,
+      r ∷ rs,
+      cond-false (is_next p r.first) (record { first = p; count = r.count + 1 } ∷ rs) (record { first = p; count = 1 } ∷ (r ∷ rs))
+          e,
+    )
 
-lengthens : (p q : Point) (c : ℕ) (rs : List Run) → is_next p q ≡ true → before p (record { first = q; count = c } ∷ rs) ≡ record { first = p; count = c + 1 } ∷ rs
-lengthens p q c rs e = cond-true (is_next p q) (record { first = p; count = c + 1 } ∷ rs) (record { first = p; count = 1 } ∷ (record { first = q; count = c } ∷ rs)) e
+lengthens : (p q : Point) (c : ℕ) (rs : List Run) → is_next p q ≡ true → before p (record { first = q; count = c } ∷ rs) ≡ record { first = p; count = c + 1 }
+    ∷ rs
+lengthens p q c rs e = cond-true (is_next p q) (record { first = p; count = c + 1 } ∷ rs)
+    (record { first = p; count = 1 } ∷ (record { first = q; count = c } ∷ rs)) e
 
-begins_anew : (p q : Point) (c : ℕ) (rs : List Run) → is_next p q ≡ false → before p (record { first = q; count = c } ∷ rs) ≡ record { first = p; count = 1 } ∷ (record { first = q; count = c } ∷ rs)
-begins_anew p q c rs e = cond-false (is_next p q) (record { first = p; count = c + 1 } ∷ rs) (record { first = p; count = 1 } ∷ (record { first = q; count = c } ∷ rs)) e
+begins_anew : (p q : Point) (c : ℕ) (rs : List Run) → is_next p q ≡ false
+    → before p (record { first = q; count = c } ∷ rs) ≡ record { first = p; count = 1 } ∷ (record { first = q; count = c } ∷ rs)
+begins_anew p q c rs e = cond-false (is_next p q) (record { first = p; count = c + 1 } ∷ rs)
+    (record { first = p; count = 1 } ∷ (record { first = q; count = c } ∷ rs)) e
 
 -- the points up to where they stop to go on are the first run
 pub first_run : (ps : List Point) (n : ℕ) → 0 < n → n ≤ length ps → GoesOn ps n → Stops ps n → BeginsWithRun ps n
@@ -53,7 +68,8 @@ first_run (p ∷ q ∷ ps) (suc (suc n)) some within goes stops =
     goes_behind p q ps n goes k below = goes (suc k) (omega arith)
 
 -- one step of the search, at a place of the program's points
-pub step_at : (points : List P2) (i k : ℕ) (b : Bool) (d e : P2) → suc k ≡ i → i < length points → is_next (flat (get_or points (i - 1) d)) (flat (get_or points i e)) ≡ b → is_next (get_or (flats points) k []) (get_or (flats points) (suc k) []) ≡ b
+pub step_at : (points : List P2) (i k : ℕ) (b : Bool) (d e : P2) → suc k ≡ i → i < length points
+    → is_next (flat (get_or points (i - 1) d)) (flat (get_or points i e)) ≡ b → is_next (get_or (flats points) k []) (get_or (flats points) (suc k) []) ≡ b
 step_at points i k b d e at within h =
     let there : k < length points = omega arith in
     let next : suc k < length points = omega arith in
@@ -65,7 +81,8 @@ step_at points i k b d e at within h =
     (λ i. is_next (f i) (g i)) ∙ h''
 
 -- the text of the runs from a place on, where a run begins there
-pub one_run : (points : List P2) (at n : ℕ) (d : P2) → at < length points → BeginsWithRun (flats (drop at points)) n → runs_text (flats (drop at points)) ≡ run_text (record { first = flat (get_or points at d); count = n }) ++ runs_text (flats (drop (at + n) points))
+pub one_run : (points : List P2) (at n : ℕ) (d : P2) → at < length points → BeginsWithRun (flats (drop at points)) n
+    → runs_text (flats (drop at points)) ≡ run_text (record { first = flat (get_or points at d); count = n }) ++ runs_text (flats (drop (at + n) points))
 one_run points at n d within run =
     let some : 0 < length (drop at points) = omega (arith, length-drop at points) in
     let first : get_or (flats (drop at points)) 0 [] ≡ flat (get_or points at d) =

@@ -1,3 +1,10 @@
+pub mod SolidSeen
+pub mod Layout
+pub mod Canvas
+pub mod Inks
+pub mod Dabs
+pub mod Sheets
+pub mod SheetStanding
 pub mod Runs
 pub mod Object
 pub mod Outlines

@@ -50,7 +50,13 @@ pub record Kept : Type 0 where
 
 -- the same where the strokes of the last contour stand with the others, and nothing else is kept of it
 abbrev pub closed : List ℕ → Kept → Kept
-closed sides k = record { strokes = k.strokes ++ filter (is_inside sides) (strokes_along k.points true k.stretches); begun = k.begun; points = []; stretches = [] }
+closed sides k = record {
+  strokes = k.strokes ++ filter (is_inside sides) (strokes_along k.points true k.stretches);
+  begun = k.begun;
+  points = [];
+  stretches =
+      [];
+}
 
 -- the same with one more point of the last contour, where one was begun
 abbrev pub with_point : Kept → Point → Kept

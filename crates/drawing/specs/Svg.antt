@@ -47,7 +47,8 @@ depth_path xs d = path (depth_opening d) (runs_text (points_at d xs))
 
 -- the object, depth by depth; each run is as high as a pixel, and begins half a pixel left of its first centre
 abbrev pub object_layer : List Pixel → List ℕ
-object_layer xs = codes "<g transform=\"translate(-.5)\" stroke=\"#666\" shape-rendering=\"crispEdges\">\n" ++ (flat_map (depth_path xs) (range_with_len 0 6) ++ codes "</g>\n")
+object_layer xs = codes "<g transform=\"translate(-.5)\" stroke=\"#666\" shape-rendering=\"crispEdges\">\n"
+    ++ (flat_map (depth_path xs) (range_with_len 0 6) ++ codes "</g>\n")
 
 -- the segments: the even ones blue, the others orange, and their ends on top as small squares
 abbrev pub stroke_opening : Bool → List ℕ
@@ -87,7 +88,9 @@ view_text w h = codes "\" viewBox=\"-.5 -.5 " ++ (decimal w ++ (codes " " ++ dec
 
 -- the front of the drawing of a picture with these sides
 abbrev pub head : ℕ → ℕ → List ℕ
-head w h = size_text w h ++ (view_text w h ++ codes "\" fill=\"none\">\n<title>Drawn from a report, which `shape check` can check</title>\n<rect x=\"-.5\" y=\"-.5\" width=\"100%\" height=\"100%\" fill=\"#fff\"/>\n")
+head w h = size_text w h
+    ++ (view_text w h ++ codes
+    "\" fill=\"none\">\n<title>Drawn from a report, which `shape check` can check</title>\n<rect x=\"-.5\" y=\"-.5\" width=\"100%\" height=\"100%\" fill=\"#fff\"/>\n")
 
 -- all layers: the object, on it the contours, and on top the skeleton
 abbrev pub layers : List ℕ → List Pixel → List Stroke → List Point → List ℕ

@@ -1,6 +1,7 @@
 -- What the good lines of one cycle tell of it, one after another: its start, its arcs so far, and the evidence for its gaps so far.
 -- Laws of one cycle's lines; how the cycles follow each other stands in `EdgesShown`.
-use Rattle.std.proofs.Common.{◌≡◌, ◌<◌, ◌≤◌, inl, inr, ℕ, zero, suc, List, [], ◌∷◌, ◌++◌, length, map, take, Some, refl, ap, sym, ◌∙◌, subst, arith, append-nil, append_assoc}
+use Rattle.std.proofs.Common.{◌≡◌, ◌<◌, ◌≤◌, inl, inr, ℕ, zero, suc, List, [], ◌∷◌, ◌++◌, length, map, take, Some, refl, ap, sym, ◌∙◌, subst, arith, append-nil}
+use Rattle.std.proofs.Common.{append_assoc}
 use Rattle.std.specs.Prelude.{slice_get}
 use Rattle.std.proofs.lemmas.List.{map-append, take-map}
 use Rattle.shape_terms.specs.Contours.{Crack}
@@ -79,21 +80,24 @@ module _ (c : EdgeCycle) (t : Told) (w : SaysCycle c t) where
     arc = w.arc;
     gap = λ k f there. elim (get_push t.gaps e k f there) [
       | inl h ↦ w.gap k f h.0
-      | inr h ↦ subst (λ (j : ℕ). IsEdgeEvidence (gap_run c.path (held_stretches t.arcs) j) f) (sym h.2) (subst (IsEdgeEvidence (gap_run c.path (held_stretches t.arcs) (length t.gaps))) h.0 good)
+      | inr h ↦ subst (λ (j : ℕ). IsEdgeEvidence (gap_run c.path (held_stretches t.arcs) j) f) (sym h.2)
+          (subst (IsEdgeEvidence (gap_run c.path (held_stretches t.arcs) (length t.gaps))) h.0 good)
     ];
   }
 
 pub lines_arc : (t : Told) (a : Held) → t.gaps ≡ [] → told_lines t ++ held_line a ∷ [] ≡ told_lines (told_arc t a)
 lines_arc t a e =
     let head = Line.Cycle t.start t.steps t.declared in
-    let before : map held_line t.arcs ++ map Line.Gap t.gaps ≡ map held_line t.arcs = ap (λ g. map held_line t.arcs ++ map Line.Gap g) e ∙ append-nil (map held_line t.arcs) in
+    let before : map held_line t.arcs ++ map Line.Gap t.gaps ≡ map held_line t.arcs = ap (λ g. map held_line t.arcs ++ map Line.Gap g) e
+    ∙ append-nil (map held_line t.arcs) in
     let more : map held_line t.arcs ++ held_line a ∷ [] ≡ map held_line (t.arcs ++ a ∷ []) = sym (map-append held_line t.arcs (a ∷ [])) in
     ap (λ ls. head ∷ (ls ++ held_line a ∷ [])) before ∙ ap (λ ls. head ∷ ls) (more ∙ sym (append-nil (map held_line (t.arcs ++ a ∷ []))))
 
 pub lines_gap : (t : Told) (e : EdgeEvidence) → told_lines t ++ Line.Gap e ∷ [] ≡ told_lines (told_gap t e)
 lines_gap t e =
     let head = Line.Cycle t.start t.steps t.declared in
-    ap (λ ls. head ∷ ls) (append_assoc (map held_line t.arcs) (map Line.Gap t.gaps) (Line.Gap e ∷ []) ∙ ap (λ ls. map held_line t.arcs ++ ls) (sym (map-append Line.Gap t.gaps (e ∷ []))))
+    ap (λ ls. head ∷ ls) (append_assoc (map held_line t.arcs) (map Line.Gap t.gaps) (Line.Gap e ∷ [])
+    ∙ ap (λ ls. map held_line t.arcs ++ ls) (sym (map-append Line.Gap t.gaps (e ∷ []))))
 
 -- ---- all lines of a cycle
 
@@ -131,7 +135,8 @@ gap_lines (a ∷ arcs) (e ∷ gaps) h = ap (λ ls. Line.Gap e ∷ ls) (gap_lines
 abbrev held_of : Arc → Held
 held_of a = record { stretch = a.stretch; line = a.line }
 
-at_both : (arcs : List Held) (gaps : List EdgeEvidence) → length arcs ≡ length gaps → (k : ℕ) → k < length (with_gaps arcs gaps) → (slice_get arcs k ≡ Some (held_of (arc_in (with_gaps arcs gaps) k))) × (slice_get gaps k ≡ Some (arc_in (with_gaps arcs gaps) k).gap)
+at_both : (arcs : List Held) (gaps : List EdgeEvidence) → length arcs ≡ length gaps → (k : ℕ) → k < length (with_gaps arcs gaps)
+    → (slice_get arcs k ≡ Some (held_of (arc_in (with_gaps arcs gaps) k))) × (slice_get gaps k ≡ Some (arc_in (with_gaps arcs gaps) k).gap)
 unfolding with_gaps
 at_both [] gaps h k l = absurd (omega arith)
 at_both (a ∷ arcs) [] h k l = absurd (omega arith)
@@ -157,10 +162,12 @@ module _ (c : EdgeCycle) (t : Told) (w : SaysCycle c t) (all : length t.arcs ≡
         arc = λ k l.
             let a = arc_in arcs k in
             let good = w.arc k (held_of a) (at_both t.arcs t.gaps same k l).0 in
-            let before : held_stretches (take k t.arcs) ≡ take k (stretches_of arcs) = sym (take-map (λ (x : Held). x.stretch) k t.arcs) ∙ ap (take k) (sym (stretches-with_gaps t.arcs t.gaps same)) in
+            let before : held_stretches (take k t.arcs) ≡ take k (stretches_of arcs) = sym (take-map (λ (x : Held). x.stretch) k t.arcs)
+            ∙ ap (take k) (sym (stretches-with_gaps t.arcs t.gaps same)) in
             subst (λ (m : ℕ). IsArc c.path m (take k (stretches_of arcs)) a.stretch.first a.stretch.last a.line) (sym count)
             (subst (λ (ss : List Stretch). IsArc c.path t.declared ss a.stretch.first a.stretch.last a.line) before good);
-        gap = λ k l. subst (λ (ss : List Stretch). IsEdgeEvidence (gap_run c.path ss k) (arc_in arcs k).gap) (sym (stretches-with_gaps t.arcs t.gaps same)) (w.gap k (arc_in arcs k).gap (at_both t.arcs t.gaps same k l).1);
+        gap = λ k l. subst (λ (ss : List Stretch). IsEdgeEvidence (gap_run c.path ss k) (arc_in arcs k).gap) (sym (stretches-with_gaps t.arcs t.gaps same))
+            (w.gap k (arc_in arcs k).gap (at_both t.arcs t.gaps same k l).1);
       }
 
   -- a cycle that is told whole is shown

@@ -35,11 +35,15 @@ pub record IsFrom (X : Picture) (k : Contour) (c : EdgeCycle) : Type 0 where
 abbrev pub AreFrom : Picture → List Contour → List EdgeCycle → ℕ → Type 0
 AreFrom X contours cycles n = (j : ℕ) → j < n → IsFrom X (get_or contours j no_contour) (get_or cycles j no_cycle)
 
-pub from_more : (X : Picture) (contours : List Contour) (old new : List EdgeCycle) (n : ℕ) (c : EdgeCycle) → length old ≡ n → new ≡ old ++ c ∷ [] → AreFrom X contours old n → IsFrom X (get_or contours n no_contour) c → AreFrom X contours new (n + 1)
+pub from_more : (X : Picture) (contours : List Contour) (old new : List EdgeCycle) (n : ℕ) (c : EdgeCycle) → length old ≡ n → new ≡ old ++ c ∷ []
+    → AreFrom X contours old n → IsFrom X (get_or contours n no_contour) c → AreFrom X contours new (n + 1)
 from_more X contours old new n c len put h f j l = elim (ℕ_discrete j n) [
   | yes e ↦ subst (λ (i : ℕ). IsFrom X (get_or contours i no_contour) (get_or new i no_cycle)) (sym e)
-      (subst (IsFrom X (get_or contours n no_contour)) (sym (ap (λ (l : List EdgeCycle). get_or l n no_cycle) put ∙ (ap (λ i. get_or (old ++ c ∷ []) i no_cycle) (sym len) ∙ get_or-append_seam old c [] no_cycle))) f)
-  | no d ↦ subst (IsFrom X (get_or contours j no_contour)) (sym (ap (λ (l : List EdgeCycle). get_or l j no_cycle) put ∙ get_or_append_left old (c ∷ []) no_cycle j (omega arith))) (h j (omega arith))
+      (subst (IsFrom X (get_or contours n no_contour))
+      (sym (ap (λ (l : List EdgeCycle). get_or l n no_cycle) put
+      ∙ (ap (λ i. get_or (old ++ c ∷ []) i no_cycle) (sym len) ∙ get_or-append_seam old c [] no_cycle))) f)
+  | no d ↦ subst (IsFrom X (get_or contours j no_contour))
+      (sym (ap (λ (l : List EdgeCycle). get_or l j no_cycle) put ∙ get_or_append_left old (c ∷ []) no_cycle j (omega arith))) (h j (omega arith))
 ]
 
 module _ (X : Picture) (contours : List Contour) (are : AreContours X contours) where
@@ -47,7 +51,8 @@ module _ (X : Picture) (contours : List Contour) (are : AreContours X contours) 
   count = ap length are.contours_are ∙ length-map are.cycles (contour_of X)
 
   contour_is : (j : ℕ) → j < length contours → get_or contours j no_contour ≡ contour_of X (get_or are.cycles j [])
-  contour_is j l = ap (λ (c : List Contour). get_or c j no_contour) are.contours_are ∙ get_or-map (contour_of X) are.cycles j [] no_contour (let n = count in omega arith)
+  contour_is j l = ap (λ (c : List Contour). get_or c j no_contour) are.contours_are
+      ∙ get_or-map (contour_of X) are.cycles j [] no_contour (let n = count in omega arith)
 
   cycle_at : (j : ℕ) → j < length contours → IsCycle X (get_or are.cycles j [])
   cycle_at j l = are.are.cycle j [] (let n = count in omega arith)
@@ -61,7 +66,8 @@ module _ (X : Picture) (contours : List Contour) (are : AreContours X contours) 
   start_crack j l =
       let cracks = get_or are.cycles j [] in
       let i : Contains are.cycles cracks = (j, (let n = count in omega arith), get_or_default are.cycles j cracks [] (let n = count in omega arith)) in
-      subst (λ (k : Contour). IsCrack X k.start) (sym (contour_is j l)) ((are.are.each (first_of_cycle cracks)).1 (of_list are.cycles cracks (first_of_cycle cracks) i (first_in cracks (cycle_at j l))))
+      subst (λ (k : Contour). IsCrack X k.start) (sym (contour_is j l))
+      ((are.are.each (first_of_cycle cracks)).1 (of_list are.cycles cracks (first_of_cycle cracks) i (first_in cracks (cycle_at j l))))
 
   -- two cycles from one crack are one
   same_cycle : (a b : List Crack) → IsCycle X a → IsCycle X b → first_of_cycle a ≡ first_of_cycle b → a ≡ b
@@ -79,7 +85,8 @@ module _ (X : Picture) (contours : List Contour) (are : AreContours X contours) 
       let path : c.path ≡ corner_path (get_or are.cycles j []) = f.path.corners ∙ ap corner_path same in
       λ i. record { start = start i; path = path i }
 
-  all_same : (xs : List EdgeCycle) (ys : List (List Crack)) → length xs ≡ length ys → ((j : ℕ) → j < length xs → get_or xs j no_cycle ≡ edge_cycle_of (get_or ys j [])) → xs ≡ map edge_cycle_of ys
+  all_same : (xs : List EdgeCycle) (ys : List (List Crack)) → length xs ≡ length ys
+      → ((j : ℕ) → j < length xs → get_or xs j no_cycle ≡ edge_cycle_of (get_or ys j [])) → xs ≡ map edge_cycle_of ys
   all_same [] [] e h = refl
   all_same [] (y ∷ ys) e h = absurd (omega arith)
   all_same (x ∷ xs) [] e h = absurd (omega arith)
@@ -99,10 +106,12 @@ pub contour_at : (contours : List Contour) (k : ℕ) (c : Contour) → slice_get
 contour_at contours k c e = get_or_from_slice_get contours k c no_contour e
 
 -- the contour at a place, as the program reads it, and its first crack
-pub start_is : (contours : List Contour) (k : ℕ) (c : Contour) (start : Crack) → slice_get contours k ≡ Some c → start ≡ c.start → (get_or contours k no_contour).start ≡ start
+pub start_is : (contours : List Contour) (k : ℕ) (c : Contour) (start : Crack) → slice_get contours k ≡ Some c → start ≡ c.start
+    → (get_or contours k no_contour).start ≡ start
 start_is contours k c start e f = ap (λ (k : Contour). k.start) (contour_at contours k c e) ∙ sym f
 
-pub is_from : (X : Picture) (contours : List Contour) (k : ℕ) (c : Contour) (start : Crack) (n : EdgeCycle) → slice_get contours k ≡ Some c → start ≡ c.start → n.start ≡ start → IsCornerPathFrom X start n.path → IsFrom X (get_or contours k no_contour) n
+pub is_from : (X : Picture) (contours : List Contour) (k : ℕ) (c : Contour) (start : Crack) (n : EdgeCycle) → slice_get contours k ≡ Some c → start ≡ c.start
+    → n.start ≡ start → IsCornerPathFrom X start n.path → IsFrom X (get_or contours k no_contour) n
 is_from X contours k c start n e f g h =
     let s = start_is contours k c start e f in
     record { start = g ∙ sym s; path = subst (λ (d : Crack). IsCornerPathFrom X d n.path) (sym s) h }

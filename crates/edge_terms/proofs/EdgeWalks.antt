@@ -20,12 +20,15 @@ use Rattle.edge_terms.proofs.ShortEdges.{short_edge}
 pub edge_walks : IsWalkKind edge_walk
 edge_walks = record { straightness = edge_straightness; short = short_edge; bent = λ a run h. evidence_excludes run a.gap h.shows }
 
-module _ (path : List Point) (found : List Arc) (now : Stretch) (round : ℕ) (w : IsWalk edge_walk path found now round) (over : round ≤ now.first) (some : 1 ≤ length path) where
-  one_arc : (k : ℕ) → k < length found → IsArc path (length found) (take k (stretches_of found)) (arc_in found k).stretch.first (arc_in found k).stretch.last (arc_in found k).line
+module _ (path : List Point) (found : List Arc) (now : Stretch) (round : ℕ) (w : IsWalk edge_walk path found now round) (over : round ≤ now.first)
+    (some : 1 ≤ length path) where
+  one_arc : (k : ℕ) → k < length found → IsArc path (length found) (take k (stretches_of found)) (arc_in found k).stretch.first (arc_in found k).stretch.last
+      (arc_in found k).line
   one_arc k l =
       let n = length-stretches edge_walk found in
       let gaps = runs_with_gaps edge_walk edge_walks path found now round w over some in
-      let p = subst (IsPlaced path (length (stretches_of found)) (take k (stretches_of found))) (get_or-map (λ (a : Arc). a.stretch) found k _ _ l) (placed IsEdgeStraight edge_straightness path (stretches_of found) gaps k (omega (arith, n))) in
+      let p = subst (IsPlaced path (length (stretches_of found)) (take k (stretches_of found))) (get_or-map (λ (a : Arc). a.stretch) found k _ _ l)
+      (placed IsEdgeStraight edge_straightness path (stretches_of found) gaps k (omega (arith, n))) in
       let s = (arc_in found k).stretch in
       let h = w.held k _ l in
       let rises = p.rises in

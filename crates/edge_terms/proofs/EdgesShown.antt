@@ -20,7 +20,8 @@ use Rattle.edge_terms.specs.Lines.{Line, spelled}
 use Rattle.edge_terms.specs.EdgeReports.{State, next, CycleClaim, Claim, course, edge_report}
 use Rattle.edge_terms.specs.EdgeFacts.{CycleFact, cycle_lines, edge_lines, CycleShows, EdgesShow}
 use Rattle.edge_terms.proofs.EdgeCycles.{edge_cycles_same, open_path_is}
-use Rattle.edge_terms.proofs.CycleTold.{Held, held_stretches, Told, told_lines, SaysCycle, told_arc, told_gap, says_arc, says_gap, lines_arc, lines_gap, whole_fact, whole_shows, whole_lines}
+use Rattle.edge_terms.proofs.CycleTold.{Held, held_stretches, Told, told_lines, SaysCycle, told_arc, told_gap, says_arc, says_gap, lines_arc, lines_gap}
+use Rattle.edge_terms.proofs.CycleTold.{whole_fact, whole_shows, whole_lines}
 
 -- ---- lists
 
@@ -62,7 +63,8 @@ record SaysWhole (X : Picture) (cycles : List EdgeCycle) (n : ℕ) (lines : List
 data Says (X : Picture) (cycles : List EdgeCycle) (lines : List Line) (s : State) : Type 0 where
   Nothing : lines ≡ [] → s ≡ State.Opening → Says X cycles lines s
   Sides : (w h : ℕ) → X.sides ≡ w ∷ h ∷ [] → lines ≡ Line.Edges w h ∷ [] → s ≡ State.Open nothing_taken → Says X cycles lines s
-  Cycles : (w h : ℕ) (front : List CycleFact) (t : Told) → SaysLast X cycles w h front t lines → s ≡ State.Open (standing_of (length front) t) → Says X cycles lines s
+  Cycles : (w h : ℕ) (front : List CycleFact) (t : Told) → SaysLast X cycles w h front t lines → s ≡ State.Open (standing_of (length front) t)
+      → Says X cycles lines s
   Ended : s ≡ State.Ended → Says X cycles lines s
 
 module _ (X : Picture) (cycles : List EdgeCycle) (are : AreEdgeCycles X cycles) where
@@ -71,7 +73,8 @@ module _ (X : Picture) (cycles : List EdgeCycle) (are : AreEdgeCycles X cycles) 
   sides_whole lines w h sides e = record { width = w; height = h; sides = sides; facts = []; lines_are = e; shown = tt; count = refl }
 
   -- a cycle that has all its lines is one more that is told whole
-  last_whole : (lines : List Line) (w h : ℕ) (front : List CycleFact) (t : Told) → SaysLast X cycles w h front t lines → IsFull (standing_of (length front) t) → SaysWhole X cycles (length front + 1) lines
+  last_whole : (lines : List Line) (w h : ℕ) (front : List CycleFact) (t : Told) → SaysLast X cycles w h front t lines → IsFull (standing_of (length front) t)
+      → SaysWhole X cycles (length front + 1) lines
   last_whole lines w h front t says full =
       let f = full (omega arith) in
       let all : length t.arcs ≡ t.declared = sym (length-map t.arcs (λ (a : Held). a.stretch)) ∙ f.arcs in
@@ -83,7 +86,8 @@ module _ (X : Picture) (cycles : List EdgeCycle) (are : AreEdgeCycles X cycles) 
         sides = says.sides;
         facts = front ++ fact ∷ [];
         lines_are = says.lines_are ∙ ap (λ ls. Line.Edges w h ∷ ls)
-            (ap (λ ls. flat_map cycle_lines front ++ ls) (whole_lines says.cycle t says.said all f.gaps ∙ sym (append-nil (cycle_lines fact))) ∙ sym (flat_map-append cycle_lines front (fact ∷ [])));
+            (ap (λ ls. flat_map cycle_lines front ++ ls) (whole_lines says.cycle t says.said all f.gaps ∙ sym (append-nil (cycle_lines fact)))
+            ∙ sym (flat_map-append cycle_lines front (fact ∷ [])));
         shown = subst (λ (k : ℕ). AllZip CycleShows (take k cycles) (front ++ fact ∷ [])) n
             (subst (λ (cs : List EdgeCycle). AllZip CycleShows cs (front ++ fact ∷ [])) (take_more cycles (length front) says.cycle says.there)
             (zip_push CycleShows (take (length front) cycles) front says.cycle fact says.shown (whole_shows says.cycle t says.said all f.gaps)));
@@ -91,7 +95,8 @@ module _ (X : Picture) (cycles : List EdgeCycle) (are : AreEdgeCycles X cycles) 
       }
 
   -- the next cycle is begun
-  begins : (lines : List Line) (s : Standing) (c : _) (n m : ℕ) → SaysWhole X cycles s.begun lines → IsCycleHead cycles s c n m → Says X cycles (lines ++ Line.Cycle c n m ∷ []) (next (State.Open s) (Line.Cycle c n m))
+  begins : (lines : List Line) (s : Standing) (c : _) (n m : ℕ) → SaysWhole X cycles s.begun lines → IsCycleHead cycles s c n m
+      → Says X cycles (lines ++ Line.Cycle c n m ∷ []) (next (State.Open s) (Line.Cycle c n m))
   begins lines s c n m w head =
       let t : Told = record { start = c; steps = n; declared = m; arcs = []; gaps = [] } in
       Cycles w.width w.height w.facts t (record {
@@ -100,14 +105,25 @@ module _ (X : Picture) (cycles : List EdgeCycle) (are : AreEdgeCycles X cycles) 
         shown = w.shown;
         cycle = record { start = c; path = head.path };
         there = ap (slice_get cycles) (sym w.count) ∙ head.next;
-        said = record { start = refl; steps = head.count; some = head.arcs.0; few = (let h = head.arcs.1 in let e = head.count in omega arith); arc = λ k a e. cc; gap = λ k e f. cc };
+        said = record {
+          start = refl;
+          steps = head.count;
+          some = head.arcs.0;
+          few = (let h = head.arcs.1 in let e = head.count in omega arith);
+          arc =
+              λ k a e. cc;
+          gap = λ k e f. cc;
+        };
       }) (ap (λ k. State.Open (record { begun = k + 1; declared = m; stretches = []; gaps = 0 })) w.count)
 
-  more_lines : (w h : ℕ) (front : List CycleFact) (lines told now : List Line) (l : Line) → lines ≡ Line.Edges w h ∷ (flat_map cycle_lines front ++ told) → told ++ l ∷ [] ≡ now → lines ++ l ∷ [] ≡ Line.Edges w h ∷ (flat_map cycle_lines front ++ now)
-  more_lines w h front lines told now l e f = ap (λ ls. ls ++ l ∷ []) e ∙ ap (λ ls. Line.Edges w h ∷ ls) (append_assoc (flat_map cycle_lines front) told (l ∷ []) ∙ ap (λ ls. flat_map cycle_lines front ++ ls) f)
+  more_lines : (w h : ℕ) (front : List CycleFact) (lines told now : List Line) (l : Line) → lines ≡ Line.Edges w h ∷ (flat_map cycle_lines front ++ told)
+      → told ++ l ∷ [] ≡ now → lines ++ l ∷ [] ≡ Line.Edges w h ∷ (flat_map cycle_lines front ++ now)
+  more_lines w h front lines told now l e f = ap (λ ls. ls ++ l ∷ []) e
+      ∙ ap (λ ls. Line.Edges w h ∷ ls) (append_assoc (flat_map cycle_lines front) told (l ∷ []) ∙ ap (λ ls. flat_map cycle_lines front ++ ls) f)
 
   -- one arc more
-  arc_more : (lines : List Line) (w h : ℕ) (front : List CycleFact) (t : Told) (k : Stretch) (line : _) → SaysLast X cycles w h front t lines → IsNextArc cycles (standing_of (length front) t) k.first k.last line
+  arc_more : (lines : List Line) (w h : ℕ) (front : List CycleFact) (t : Told) (k : Stretch) (line : _) → SaysLast X cycles w h front t lines
+      → IsNextArc cycles (standing_of (length front) t) k.first k.last line
       → Says X cycles (lines ++ Line.Arc k line ∷ []) (next (State.Open (standing_of (length front) t)) (Line.Arc k line))
   arc_more lines w h front t k line says g =
       let a : Held = record { stretch = k; line = line } in
@@ -120,13 +136,20 @@ module _ (X : Picture) (cycles : List EdgeCycle) (are : AreEdgeCycles X cycles) 
         cycle = says.cycle;
         there = says.there;
         said = says_arc says.cycle t says.said a good;
-      }) (λ i. State.Open (record { begun = length front + 1; declared = t.declared; stretches = sym (map-append (λ (x : Held). x.stretch) t.arcs (a ∷ [])) i; gaps = g.early i }))
+      }) (λ i. State.Open (record {
+        begun = length front + 1;
+        declared = t.declared;
+        stretches = sym (map-append (λ (x : Held). x.stretch) t.arcs (a ∷ [])) i;
+        gaps = g.early i;
+      }))
 
   -- the evidence for one gap more
-  gap_more : (lines : List Line) (w h : ℕ) (front : List CycleFact) (t : Told) (e : _) → SaysLast X cycles w h front t lines → IsNextGap cycles (standing_of (length front) t) e
+  gap_more : (lines : List Line) (w h : ℕ) (front : List CycleFact) (t : Told) (e : _) → SaysLast X cycles w h front t lines
+      → IsNextGap cycles (standing_of (length front) t) e
       → Says X cycles (lines ++ Line.Gap e ∷ []) (next (State.Open (standing_of (length front) t)) (Line.Gap e))
   gap_more lines w h front t e says g =
-      let good = subst (λ p. IsEdgeEvidence (gap_run p (held_stretches t.arcs) (length t.gaps)) e) (open_path_is cycles (length front) says.cycle says.there) g.shows in
+      let good = subst (λ p. IsEdgeEvidence (gap_run p (held_stretches t.arcs) (length t.gaps)) e) (open_path_is cycles (length front) says.cycle says.there)
+      g.shows in
       Cycles w h front (told_gap t e) (record {
         sides = says.sides;
         lines_are = more_lines w h front lines (told_lines t) (told_lines (told_gap t e)) (Line.Gap e) says.lines_are (lines_gap t e);
@@ -134,7 +157,8 @@ module _ (X : Picture) (cycles : List EdgeCycle) (are : AreEdgeCycles X cycles) 
         cycle = says.cycle;
         there = says.there;
         said = says_gap says.cycle t says.said e good;
-      }) (ap (λ k. State.Open (record { begun = length front + 1; declared = t.declared; stretches = held_stretches t.arcs; gaps = k })) (sym (length-append t.gaps (e ∷ []))))
+      }) (ap (λ k. State.Open (record { begun = length front + 1; declared = t.declared; stretches = held_stretches t.arcs; gaps = k }))
+      (sym (length-append t.gaps (e ∷ []))))
 
   -- ---- one more good line
 
@@ -145,14 +169,16 @@ module _ (X : Picture) (cycles : List EdgeCycle) (are : AreEdgeCycles X cycles) 
   after_nothing (Line.Gap e) g = absurd g
   after_nothing Line.End g = absurd g
 
-  after_sides : (lines : List Line) (w h : ℕ) (l : Line) → X.sides ≡ w ∷ h ∷ [] → lines ≡ Line.Edges w h ∷ [] → CycleClaim cycles nothing_taken l → Says X cycles (lines ++ l ∷ []) (next (State.Open nothing_taken) l)
+  after_sides : (lines : List Line) (w h : ℕ) (l : Line) → X.sides ≡ w ∷ h ∷ [] → lines ≡ Line.Edges w h ∷ [] → CycleClaim cycles nothing_taken l
+      → Says X cycles (lines ++ l ∷ []) (next (State.Open nothing_taken) l)
   after_sides lines w h (Line.Edges a b) sides e g = absurd g
   after_sides lines w h (Line.Cycle c n m) sides e g = begins lines nothing_taken c n m (sides_whole lines w h sides e) g
   after_sides lines w h (Line.Arc k line) sides e g = absurd (let m = g.more in omega arith)
   after_sides lines w h (Line.Gap v) sides e g = absurd (let m = g.more in omega arith)
   after_sides lines w h Line.End sides e g = Ended refl
 
-  after_cycle : (lines : List Line) (w h : ℕ) (front : List CycleFact) (t : Told) (l : Line) → SaysLast X cycles w h front t lines → CycleClaim cycles (standing_of (length front) t) l → Says X cycles (lines ++ l ∷ []) (next (State.Open (standing_of (length front) t)) l)
+  after_cycle : (lines : List Line) (w h : ℕ) (front : List CycleFact) (t : Told) (l : Line) → SaysLast X cycles w h front t lines
+      → CycleClaim cycles (standing_of (length front) t) l → Says X cycles (lines ++ l ∷ []) (next (State.Open (standing_of (length front) t)) l)
   after_cycle lines w h front t (Line.Edges a b) says g = absurd g
   after_cycle lines w h front t (Line.Cycle c n m) says g = begins lines (standing_of (length front) t) c n m (last_whole lines w h front t says g.full) g
   after_cycle lines w h front t (Line.Arc k line) says g = arc_more lines w h front t k line says g
@@ -164,8 +190,10 @@ module _ (X : Picture) (cycles : List EdgeCycle) (are : AreEdgeCycles X cycles) 
   cycle_claim s l g = subst (λ cs. CycleClaim cs s l) (edge_cycles_same X g.cycles cycles g.are are) g.claim
 
   says_more : (lines : List Line) (s : State) (l : Line) → Says X cycles lines s → Claim X s l → Says X cycles (lines ++ l ∷ []) (next s l)
-  says_more lines s l (Nothing n e) g = subst (λ t. Says X cycles (lines ++ l ∷ []) (next t l)) (sym e) (subst (λ ls. Says X cycles (ls ++ l ∷ []) (next State.Opening l)) (sym n) (after_nothing l (subst (λ t. Claim X t l) e g)))
-  says_more lines s l (Sides w h sides n e) g = subst (λ t. Says X cycles (lines ++ l ∷ []) (next t l)) (sym e) (after_sides lines w h l sides n (cycle_claim nothing_taken l (subst (λ t. Claim X t l) e g)))
+  says_more lines s l (Nothing n e) g = subst (λ t. Says X cycles (lines ++ l ∷ []) (next t l)) (sym e)
+      (subst (λ ls. Says X cycles (ls ++ l ∷ []) (next State.Opening l)) (sym n) (after_nothing l (subst (λ t. Claim X t l) e g)))
+  says_more lines s l (Sides w h sides n e) g = subst (λ t. Says X cycles (lines ++ l ∷ []) (next t l)) (sym e)
+      (after_sides lines w h l sides n (cycle_claim nothing_taken l (subst (λ t. Claim X t l) e g)))
   says_more lines s l (Cycles w h front t says e) g =
       let here = standing_of (length front) t in
       subst (λ t. Says X cycles (lines ++ l ∷ []) (next t l)) (sym e) (after_cycle lines w h front t l says (cycle_claim here l (subst (λ t. Claim X t l) e g)))
@@ -190,7 +218,8 @@ module _ (X : Picture) (cycles : List EdgeCycle) (are : AreEdgeCycles X cycles) 
 
   shows_with : (text : List ℕ) → Holds (edge_report X) text → EdgesShow X text
   shows_with text (front, b) =
-      let last : Claim X (reached (course X) (take (length front) (front ++ Line.End ∷ []))) Line.End = b.good (length front) Line.End (get_last front Line.End) in
+      let last : Claim X (reached (course X) (take (length front) (front ++ Line.End ∷ []))) Line.End = b.good (length front) Line.End (get_last front Line.End)
+      in
       let claim = subst (λ ls. Claim X (reached (course X) ls) Line.End) (take_front front (Line.End ∷ [])) last in
       let w = at_end front (reached (course X) front) (says front (front_good X front (Line.End ∷ []) b.good)) claim in
       let all : front ++ Line.End ∷ [] ≡ edge_lines w.width w.height w.facts = ap (λ ls. ls ++ Line.End ∷ []) w.lines_are in

@@ -30,7 +30,8 @@ sign = one_word IsSign is_sign sign_word sign_value 1
 
 -- a standard line: its two signs, its two coefficients and its lower bound
 abbrev pub standard : Form Standard
-standard = shaped (λ p. record { h = p.0; v = p.1.0; a = p.1.1.0; c = p.1.1.1.0; mu = p.1.1.1.1 }) (λ l. (l.h, (l.v, (l.a, (l.c, l.mu))))) (sign ⨾ sign ⨾ weight ⨾ weight ⨾ signed w64 63)
+standard = shaped (λ p. record { h = p.0; v = p.1.0; a = p.1.1.0; c = p.1.1.1.0; mu = p.1.1.1.1 }) (λ l. (l.h, (l.v, (l.a, (l.c, l.mu)))))
+    (sign ⨾ sign ⨾ weight ⨾ weight ⨾ signed w64 63)
 
 -- ---- kinds
 

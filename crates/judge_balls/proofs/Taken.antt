@@ -1,6 +1,7 @@
 -- What a judge stands for in the beginning, and after one good ball more.
 -- Stated of pictures, balls and marks; how the marks are kept belongs elsewhere.
-use Rattle.std.proofs.Common.{◌≡◌, ◌⊎◌, ◌↔◌, inl, inr, ℕ, ◌+◌, ◌<◌, ◌≤◌, Bool, true, false, ap, sym, ◌∙◌, subst, arith, List, [], ◌∷◌, ◌++◌, length, set, replicate, Some}
+use Rattle.std.proofs.Common.{◌≡◌, ◌⊎◌, ◌↔◌, inl, inr, ℕ, ◌+◌, ◌<◌, ◌≤◌, Bool, true, false, ap, sym, ◌∙◌, subst, arith, List, [], ◌∷◌, ◌++◌, length, set}
+use Rattle.std.proofs.Common.{replicate, Some}
 use Rattle.std.specs.Prelude.{slice_get, IsTrue}
 use Rattle.std.proofs.lemmas.Bool.{ltb-true, lt-ltb}
 use Rattle.std.proofs.lemmas.List.{get_or-set_same, get_or-set_other, get_or-replicate, get_or_past, length-replicate}
@@ -31,33 +32,40 @@ nothing_taken X n m = record {
   before = λ i. ((λ l k b e. cc), λ h. omega arith);
 }
 
-module _ (X : Picture) (balls : List Ball) (covered own : List Bool) (next : ℕ) (st : IsStanding X balls covered own next) (b : Ball) (claim : BallClaim X balls b) where
+module _ (X : Picture) (balls : List Ball) (covered own : List Bool) (next : ℕ) (st : IsStanding X balls covered own next) (b : Ball)
+    (claim : BallClaim X balls b) where
   tests : PassesTests X covered own next b
   tests = (tests_decide X balls covered own next st b).1 claim
 
   -- the balls with one more
-  more : (P : Ball → Type 0) → ((k : ℕ) × (e : Ball) × (slice_get (balls ++ b ∷ []) k ≡ Some e) × P e) → ((k : ℕ) × (e : Ball) × (slice_get balls k ≡ Some e) × P e) ⊎ P b
+  more : (P : Ball → Type 0) → ((k : ℕ) × (e : Ball) × (slice_get (balls ++ b ∷ []) k ≡ Some e) × P e)
+      → ((k : ℕ) × (e : Ball) × (slice_get balls k ≡ Some e) × P e) ⊎ P b
   more P (k, e, h, i) = elim (get_push balls b k e h) [
     | inl g ↦ inl (k, e, g.0, i)
     | inr g ↦ inr (subst P (sym g.0) i)
   ]
 
-  less : (P : Ball → Type 0) → ((k : ℕ) × (e : Ball) × (slice_get balls k ≡ Some e) × P e) ⊎ P b → (k : ℕ) × (e : Ball) × (slice_get (balls ++ b ∷ []) k ≡ Some e) × P e
+  less : (P : Ball → Type 0) → ((k : ℕ) × (e : Ball) × (slice_get balls k ≡ Some e) × P e) ⊎ P b
+      → (k : ℕ) × (e : Ball) × (slice_get (balls ++ b ∷ []) k ≡ Some e) × P e
   less P (inl (k, e, h, i)) = (k, e, get_kept balls (b ∷ []) k e h, i)
   less P (inr i) = (length balls, b, get_last balls b, i)
 
   -- the points of the ball are covered
-  now_covered : (covered2 : List Bool) → length covered ≡ box_count X.sides → ((j : ℕ) → j < length covered → (is_marked covered2 j ≡ true) ↔ ((is_marked covered j ≡ true) ⊎ (is_nearer b.centre b.s (raster_point X.sides j) ≡ true)))
+  now_covered : (covered2 : List Bool) → length covered ≡ box_count X.sides
+      → ((j : ℕ) → j < length covered
+      → (is_marked covered2 j ≡ true) ↔ ((is_marked covered j ≡ true) ⊎ (is_nearer b.centre b.s (raster_point X.sides j) ≡ true)))
       → (p : Point) → IsTrue (at X p) → (is_marked covered2 (raster_number X.sides p) ≡ true) ↔ InUnion X (balls ++ b ∷ []) p
   now_covered covered2 filled marked p o = (down, up)
     where
-      at_p : (is_marked covered2 (raster_number X.sides p) ≡ true) ↔ ((is_marked covered (raster_number X.sides p) ≡ true) ⊎ (is_nearer b.centre b.s (raster_point X.sides (raster_number X.sides p)) ≡ true))
+      at_p : (is_marked covered2 (raster_number X.sides p) ≡ true)
+          ↔ ((is_marked covered (raster_number X.sides p) ≡ true) ⊎ (is_nearer b.centre b.s (raster_point X.sides (raster_number X.sides p)) ≡ true))
       at_p = marked (raster_number X.sides p) (let l = place_below X p o in omega arith)
 
       down : is_marked covered2 (raster_number X.sides p) ≡ true → InUnion X (balls ++ b ∷ []) p
       down t = elim (at_p.0 t) [
         | inl u ↦ less (λ e. InBall X e p) (inl ((st.covers p o).0 u))
-        | inr u ↦ less (λ e. InBall X e p) (inr (in_ball X b p o (ltb-true (squared_distance b.centre p) b.s (ap (is_nearer b.centre b.s) (sym (place_back X p o)) ∙ u))))
+        | inr u ↦ less (λ e. InBall X e p)
+            (inr (in_ball X b p o (ltb-true (squared_distance b.centre p) b.s (ap (is_nearer b.centre b.s) (sym (place_back X p o)) ∙ u))))
       ]
 
       up : InUnion X (balls ++ b ∷ []) p → is_marked covered2 (raster_number X.sides p) ≡ true
@@ -70,7 +78,8 @@ module _ (X : Picture) (balls : List Ball) (covered own : List Bool) (next : ℕ
   own_object = in_object X b claim.least b.own claim.own
 
   -- its own point is marked
-  now_own : length own ≡ box_count X.sides → (p : Point) → IsTrue (at X p) → (is_marked (set own (raster_number X.sides b.own) true) (raster_number X.sides p) ≡ true) ↔ IsOwnOf (balls ++ b ∷ []) p
+  now_own : length own ≡ box_count X.sides → (p : Point) → IsTrue (at X p)
+      → (is_marked (set own (raster_number X.sides b.own) true) (raster_number X.sides p) ≡ true) ↔ IsOwnOf (balls ++ b ∷ []) p
   now_own filled p o = (down, up)
     where
       i : ℕ
@@ -82,7 +91,8 @@ module _ (X : Picture) (balls : List Ball) (covered own : List Bool) (next : ℕ
       down : is_marked (set own (raster_number X.sides b.own) true) (raster_number X.sides p) ≡ true → IsOwnOf (balls ++ b ∷ []) p
       down t = elim (ℕ_discrete (raster_number X.sides p) (raster_number X.sides b.own)) [
         | yes e ↦ less (λ e. e.own ≡ p) (inr (sym (place_back X b.own own_object) ∙ (ap (raster_point X.sides) (sym e) ∙ place_back X p o)))
-        | no d ↦ less (λ e. e.own ≡ p) (inl ((st.owns p o).0 (sym (get_or-set_other own (raster_number X.sides b.own) (raster_number X.sides p) true false d) ∙ t)))
+        | no d ↦ less (λ e. e.own ≡ p)
+            (inl ((st.owns p o).0 (sym (get_or-set_other own (raster_number X.sides b.own) (raster_number X.sides p) true false d) ∙ t)))
       ]
 
       up : IsOwnOf (balls ++ b ∷ []) p → is_marked (set own (raster_number X.sides b.own) true) (raster_number X.sides p) ≡ true
@@ -95,7 +105,8 @@ module _ (X : Picture) (balls : List Ball) (covered own : List Bool) (next : ℕ
       ]
 
   -- centres come after its centre
-  now_next : (i : ℕ) → (raster_number X.sides b.centre + 1 ≤ i) ↔ ((k : ℕ) (e : Ball) → slice_get (balls ++ b ∷ []) k ≡ Some e → raster_number X.sides e.centre < i)
+  now_next : (i : ℕ) → (raster_number X.sides b.centre + 1 ≤ i)
+      ↔ ((k : ℕ) (e : Ball) → slice_get (balls ++ b ∷ []) k ≡ Some e → raster_number X.sides e.centre < i)
   now_next i = (down, up)
     where
       down : raster_number X.sides b.centre + 1 ≤ i → (k : ℕ) (e : Ball) → slice_get (balls ++ b ∷ []) k ≡ Some e → raster_number X.sides e.centre < i
@@ -108,7 +119,8 @@ module _ (X : Picture) (balls : List Ball) (covered own : List Bool) (next : ℕ
       up h = let u = h (length balls) b (get_last balls b) in omega arith
 
   pub ball_taken : (covered2 : List Bool) → length covered ≡ box_count X.sides → length own ≡ box_count X.sides
-      → ((j : ℕ) → j < length covered → (is_marked covered2 j ≡ true) ↔ ((is_marked covered j ≡ true) ⊎ (is_nearer b.centre b.s (raster_point X.sides j) ≡ true)))
+      → ((j : ℕ) → j < length covered
+      → (is_marked covered2 j ≡ true) ↔ ((is_marked covered j ≡ true) ⊎ (is_nearer b.centre b.s (raster_point X.sides j) ≡ true)))
       → IsStanding X (balls ++ b ∷ []) covered2 (set own (raster_number X.sides b.own) true) (raster_number X.sides b.centre + 1)
   ball_taken covered2 filled own_filled marked = record {
     good = good_push X balls b st.good claim;

@@ -1,3 +1,6 @@
+pub mod CornerRounds
+pub mod WaySteps
+pub mod Shears
 pub mod PathRuns
 pub mod Folds
 pub mod Standings

@@ -1,6 +1,7 @@
 -- What a judge of an edge report finds of a line, as the claim of the line after those that the judge stands for.
 -- Laws over pictures, lines and what a judge is seen as.
-use Rattle.std.proofs.Common.{◌≡◌, ℕ, zero, suc, ◌+◌, ◌-◌, ◌*◌, ◌<◌, ◌≤◌, ◌^◌, Bool, true, false, List, [], ◌∷◌, ◌++◌, length, drop, refl, ap, sym, ◌∙◌, subst, arith}
+use Rattle.std.proofs.Common.{◌≡◌, ℕ, zero, suc, ◌+◌, ◌-◌, ◌*◌, ◌<◌, ◌≤◌, ◌^◌, Bool, true, false, List, [], ◌∷◌, ◌++◌, length, drop, refl, ap, sym, ◌∙◌, subst}
+use Rattle.std.proofs.Common.{arith}
 use Rattle.std.specs.Prelude.{◌↔◌, IsTrue, Some, slice_get, map, flat_map}
 use Rattle.std.specs.Bool.{OnTrue}
 use Rattle.std.proofs.lemmas.List.{length-append, length-map}
@@ -51,7 +52,8 @@ corners_of (c ∷ cracks) =
     omega (arith, s, n, length-map c corner, corners_of cracks)
 
 -- the lines of all cycles
-pub few_lines : (X : Picture) (cycles : List EdgeCycle) → AreEdgeCycles X cycles → box_count X.sides ≤ most_pixels → room_of (record { cycles = cycles; standing = nothing_taken }) < 2 ^ 60
+pub few_lines : (X : Picture) (cycles : List EdgeCycle) → AreEdgeCycles X cycles → box_count X.sides ≤ most_pixels
+    → room_of (record { cycles = cycles; standing = nothing_taken }) < 2 ^ 60
 few_lines X cycles are few =
     let contours = few_in_all X (map (contour_of X) are.cracks) (record { cycles = are.cracks; are = are.are; contours_are = refl }) in
     let cracks = few_cracks X (flat_map (λ c. c) are.cracks) (λ c i. (are.are.each c).1 i) are.are.once in
@@ -62,12 +64,14 @@ few_lines X cycles are few =
 -- ---- lines of cycles
 
 -- a cycle is begun
-pub cycle_followed : (old new : EdgeState) (c : Crack) (n m : ℕ) (b : Bool) → (IsTrue b ↔ IsCycleHead old.cycles old.standing c n m) → new.cycles ≡ old.cycles → OnTrue b (new.standing ≡ with_cycle old.standing m) → IsFollowed old new (Line.Cycle c n m) b
+pub cycle_followed : (old new : EdgeState) (c : Crack) (n m : ℕ) (b : Bool) → (IsTrue b ↔ IsCycleHead old.cycles old.standing c n m) → new.cycles ≡ old.cycles
+    → OnTrue b (new.standing ≡ with_cycle old.standing m) → IsFollowed old new (Line.Cycle c n m) b
 cycle_followed old new c n m false r e s = record { answer = r; cycles = e; standing = tt; room = tt }
 cycle_followed old new c n m true r e s =
     let h = r.0 refl in
     let few : m ≤ length h.path = omega (arith, h.arcs.1, h.count) in
-    let less = less_to_come old.cycles old.standing.begun m (record { start = c; path = h.path }) ((old.standing.declared - length old.standing.stretches) + (old.standing.declared - old.standing.gaps)) h.next few in
+    let less = less_to_come old.cycles old.standing.begun m (record { start = c; path = h.path })
+    ((old.standing.declared - length old.standing.stretches) + (old.standing.declared - old.standing.gaps)) h.next few in
     record { answer = r; cycles = e; standing = s; room = rw (e, s) (omega (arith, less)) }
 
 -- ---- the judge of a report
@@ -82,9 +86,14 @@ sides_claim X w h (Line.Arc k line) e = (λ g. g, λ g. g)
 sides_claim X w h (Line.Gap v) e = (λ g. g, λ g. g)
 sides_claim X w h Line.End e = (λ g. g, λ g. g)
 
-stage_claim : (X : Picture) (w h : ℕ) (stage : Stage) (j : EdgeState) (l : Line) → X.sides ≡ w ∷ h ∷ [] → AreEdgeCycles X j.cycles → StageClaim w h stage j l ↔ Claim X (state_at stage j.standing) l
+stage_claim : (X : Picture) (w h : ℕ) (stage : Stage) (j : EdgeState) (l : Line) → X.sides ≡ w ∷ h ∷ [] → AreEdgeCycles X j.cycles
+    → StageClaim w h stage j l ↔ Claim X (state_at stage j.standing) l
 stage_claim X w h Opening j l e are = sides_claim X w h l e
-stage_claim X w h Open j l e are = (λ g. record { cycles = j.cycles; are = are; claim = g }, λ g. subst (λ cs. CycleClaim cs j.standing l) (edge_cycles_same X g.cycles j.cycles g.are are) g.claim)
+stage_claim X w h Open j l e are = (
+  λ g. record { cycles = j.cycles; are = are; claim = g },
+  λ g. subst (λ cs. CycleClaim cs j.standing l) (edge_cycles_same X g.cycles j.cycles g.are are)
+      g.claim,
+)
 stage_claim X w h Ended j l e are = (λ g. g, λ g. g)
 
 module _ (X : Picture) (w h : ℕ) (stage new_stage : Stage) (old new : EdgeState) (lines : List Line) (l : Line) where
@@ -97,7 +106,8 @@ module _ (X : Picture) (w h : ℕ) (stage new_stage : Stage) (old new : EdgeStat
       )
 
   -- and then it stands for them with that line
-  pub stands_more : (b : Bool) → IsStep w h stage new_stage old new l b → StandsFor X w h stage old lines → OnTrue b (StandsFor X w h new_stage new (lines ++ l ∷ []))
+  pub stands_more : (b : Bool) → IsStep w h stage new_stage old new l b → StandsFor X w h stage old lines
+      → OnTrue b (StandsFor X w h new_stage new (lines ++ l ∷ []))
   stands_more false t s = tt
   stands_more true t s = record {
     sides = s.sides;

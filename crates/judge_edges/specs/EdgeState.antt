@@ -14,7 +14,8 @@ pub record EdgeState : Type 0 where
 
 -- the same from the judge's own numbers and the places of its arcs
 abbrev pub state_of : List EdgeCycle → (begun declared : ℕ) → List Places → (gaps : ℕ) → EdgeState
-state_of cycles begun declared arcs gaps = record { cycles = cycles; standing = record { begun = begun; declared = declared; stretches = map stretch_of arcs; gaps = gaps } }
+state_of cycles begun declared arcs gaps =
+    record { cycles = cycles; standing = record { begun = begun; declared = declared; stretches = map stretch_of arcs; gaps = gaps } }
 
 -- no more cycles were begun than there are, and of the last of them no more lines taken than it has
 pub record IsInStep (cycles : List EdgeCycle) (s : Standing) : Type 0 where

@@ -40,7 +40,8 @@ corners_in cycles = sum_by (λ k. length k.path) cycles
 
 -- a bound of the number of lines of cycles to come: those left of the cycle that was begun last, and of each later one at most two for each crack and its own
 abbrev pub room_of : EdgeState → ℕ
-room_of j = (j.standing.declared - length j.standing.stretches) + (j.standing.declared - j.standing.gaps) + (length j.cycles - j.standing.begun) + 2 * corners_in (drop j.standing.begun j.cycles)
+room_of j = (j.standing.declared - length j.standing.stretches) + (j.standing.declared - j.standing.gaps) + (length j.cycles - j.standing.begun) + 2
+    * corners_in (drop j.standing.begun j.cycles)
 
 -- and of all lines
 abbrev pub room_at : Stage → ℕ → ℕ

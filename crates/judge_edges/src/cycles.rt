@@ -8,7 +8,7 @@ ghost use Rattle.edge_terms.specs.Corners.{IsCornerPathFrom};
 ghost use Rattle.shape_crack.specs.Terms.{crack_of};
 ghost use Rattle.edge_terms.specs.EdgeCycles.{AreEdgeCycles};
 
-use edge_forms::{Corners, corner_path};
+use crate::corners::{Corners, corner_path};
 use shape_crack::{Contours, Crack, contours};
 use shape_grid::Grid;
 use shape_space::{NoMemory, P2};

@@ -1,22 +1,24 @@
 //! The judge: it goes through the cycles of the picture, and through the lines of each.
-//! What a line says of its arc or its gap is tested in `line`, `places`, `bend` and `fold`.
+//! What a line says of its arc or its gap is tested in `holding`, `places`, `bend` and `fold`.
 ghost use Rattle.std.specs.Prelude.{◌≡◌, ◌+◌, ◌-◌, ◌*◌, ◌<◌, ◌≤◌, ◌^◌, ◌↔◌, length, slice_index_or, IsTrue, IfOk, vec_capacity};
 ghost use Rattle.std.specs.Bool.{OnTrue};
 ghost use Rattle.shape_terms.specs.Limits.{most_round};
 ghost use Rattle.shape_terms.specs.Covers.{arc, next_first, gap_run};
 ghost use Rattle.shape_crack.specs.Terms.{crack_of};
-ghost use Rattle.edge_forms.specs.Lines.{standard_of};
-ghost use Rattle.edge_forms.specs.Arcs.{stretch_of as arc_stretch};
-ghost use Rattle.edge_forms.specs.Gaps.{gap_of};
+ghost use Rattle.judge_edges.specs.Lines.{standard_of};
+ghost use Rattle.judge_edges.specs.Arcs.{stretch_of as arc_stretch};
+ghost use Rattle.judge_edges.specs.Gaps.{gap_of};
 ghost use Rattle.edge_terms.specs.EdgeCycles.{AreEdgeCycles};
 ghost use Rattle.edge_terms.specs.CycleLines.{open_path, IsFull, IsCycleHead, IsNextArc, IsNextGap, with_cycle, with_arc, with_gap, nothing_taken};
 ghost use Rattle.shape_refute.specs.Places.{stretch_of};
 ghost use Rattle.judge_edges.specs.Taken.{room_of};
 
+use crate::arc::Arc;
+use crate::corners::Corners;
 use crate::cycles::{Cycles, all_cycles};
-use crate::gap::shows;
-use crate::line::holds_arc;
-use edge_forms::{Arc, Corners, EdgeGap};
+use crate::evidence::shows;
+use crate::gap::EdgeGap;
+use crate::holding::holds_arc;
 use shape_crack::Crack;
 use shape_grid::Grid;
 use shape_refute::{Places, come_next};

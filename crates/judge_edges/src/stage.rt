@@ -1,10 +1,10 @@
 //! How far an edge report has come: before its first line, among the lines of cycles, or behind its end.
 //! Which line is good there is told in `whole`.
 ghost use Rattle.std.specs.Prelude.{◌≡◌, ◌↔◌, IsTrue};
-ghost use Rattle.edge_forms.specs.LineOf.{line_of};
+ghost use Rattle.judge_edges.specs.LineOf.{line_of};
 ghost use Rattle.judge_edges.specs.Taken.{stage_behind, GivesSides};
 
-use edge_forms::EdgeLine;
+use crate::line::EdgeLine;
 
 // How far a report has come.
 #[derive(Clone, Copy)]

@@ -3,12 +3,13 @@
 ghost use Rattle.std.specs.Prelude.{◌≡◌, ◌<◌, ◌^◌, ◌↔◌, ◌∷◌, [], IsTrue, IfOk};
 ghost use Rattle.edge_terms.specs.EdgeReports.{HasEnded};
 ghost use Rattle.edge_terms.specs.CycleLines.{nothing_taken};
-ghost use Rattle.edge_forms.specs.LineOf.{line_of};
+ghost use Rattle.judge_edges.specs.LineOf.{line_of};
 ghost use Rattle.judge_edges.specs.Taken.{StandsFor, IsFollowed, IsStep, room_of, room_at, state_at};
 
 use crate::judge::EdgeJudge;
+use crate::line::EdgeLine;
+use crate::sides::{FlatSides, flat_sides};
 use crate::stage::{Stage, gives_sides, stage_behind};
-use edge_forms::{EdgeLine, FlatSides, flat_sides};
 use report_text::ReportJudge;
 use shape_grid::Grid;
 use shape_space::{NoMemory, P2};

@@ -29,7 +29,8 @@ with_piece s b e = record { begun = s.begun; declared = s.declared; pieces = s.p
 abbrev pub with_gap : Standing → Standing
 with_gap s = record { begun = s.begun; declared = s.declared; pieces = s.pieces; first = s.first; next = s.next; gaps = s.gaps + 1 }
 
--- no more contours were begun than there are, and the places of the last piece are those of the contour that was begun last; where it is not the last piece, there is a point after it
+-- no more contours were begun than there are, and the places of the last piece are those of the contour that was begun last; where it is not the last piece,
+-- there is a point after it
 pub record IsInStep (contours : List Contour) (s : Standing) : Type 0 where
   pub few : s.begun ≤ length contours
   pub begun : 0 < s.declared → 0 < s.begun

@@ -76,13 +76,15 @@ pass5 : (a b c d e : Bool) → test5 a b c d e ≡ true
 unfolding test0
 pass5 a b c d e =
     passes (λ x. test5 a b c d x) (passes (λ x. both_pass (λ y. test5 a b c x y)) (passes (λ x. both_pass (λ y. both_pass (λ z. test5 a b x y z)))
-    (passes (λ x. both_pass (λ y. both_pass (λ z. both_pass (λ t. test5 a x y z t)))) (passes (λ x. both_pass (λ y. both_pass (λ z. both_pass (λ t. both_pass (λ u. test5 x y z t u))))) all_pass a) b) c) d) e
+    (passes (λ x. both_pass (λ y. both_pass (λ z. both_pass (λ t. test5 a x y z t))))
+    (passes (λ x. both_pass (λ y. both_pass (λ z. both_pass (λ t. both_pass (λ u. test5 x y z t u))))) all_pass a) b) c) d) e
 
 -- the bits of the byte of eight truth values are these
 pub bits_of_byte : (a b c d e f g h : Bool) → bits_of (byte_of a b c d e f g h) ≡ a ∷ b ∷ c ∷ d ∷ e ∷ f ∷ g ∷ h ∷ []
 unfolding test test5
 bits_of_byte a b c d e f g h =
-    are_same _ _ (passes (λ z. test a b c d e f g z) (passes (λ y. both_pass (λ z. test a b c d e f y z)) (passes (λ x. both_pass (λ y. both_pass (λ z. test a b c d e x y z))) (pass5 a b c d e) f) g) h)
+    are_same _ _ (passes (λ z. test a b c d e f g z)
+    (passes (λ y. both_pass (λ z. test a b c d e f y z)) (passes (λ x. both_pass (λ y. both_pass (λ z. test a b c d e x y z))) (pass5 a b c d e) f) g) h)
 
 -- ---- a row
 
@@ -116,7 +118,8 @@ module _ (f : ℕ → Bool) where
       let z : 0 + 8 * n ≡ 8 * n = omega arith in
       let last : range_with_len 0 (8 * n + 8) ≡ range_with_len 0 (8 * n) ++ range_with_len (8 * n) 8 = rw z at (range-append 0 (8 * n) 8) in
       subst (λ j. flat_map (λ k. bits_of (byte_at (8 * k))) (range_with_len 0 j) ≡ map f (range_with_len 0 (8 * j))) (sym s)
-      (more_numbers (λ k. bits_of (byte_at (8 * k))) n ∙ ap (λ l. l ++ bits_of (byte_at (8 * n))) (all_values n) ∙ ap (λ l. map f (range_with_len 0 (8 * n)) ++ l) (eight_values (8 * n))
+      (more_numbers (λ k. bits_of (byte_at (8 * k))) n ∙ ap (λ l. l ++ bits_of (byte_at (8 * n))) (all_values n)
+      ∙ ap (λ l. map f (range_with_len 0 (8 * n)) ++ l) (eight_values (8 * n))
       ∙ sym (ap (λ k. map f (range_with_len 0 k)) m ∙ ap (map f) last ∙ map-append f (range_with_len 0 (8 * n)) (range_with_len (8 * n) 8)))
 
   -- the first bits of the bytes are the values

@@ -54,11 +54,13 @@ near_level square r h = elim (cases_lt square 429484) [
         let f = few (omega arith) in
         let g : IsRoot (10000 * 429484) r = subst (λ n. IsRoot (10000 * n) r) e h in
         let all : r ≡ 65535 = elim (cases_lt r 65535) [
-          | inl l ↦ (let q : (r + 1) * (r + 1) ≤ 65535 * 65535 = mul-le (r + 1) (r + 1) 65535 65535 (omega arith) (omega arith) in absurd (omega (arith, q, g.high)))
+          | inl l ↦ (let q : (r + 1) * (r + 1) ≤ 65535 * 65535 = mul-le (r + 1) (r + 1) 65535 65535 (omega arith) (omega arith) in
+              absurd (omega (arith, q, g.high)))
           | inr n ↦ omega (arith, f, n)
         ] in
         let great : 65535 ≤ root (10000 * square) = elim (cases_lt (root (10000 * square)) 65535) [
-          | inl l ↦ (let q : (root (10000 * square) + 1) * (root (10000 * square) + 1) ≤ 65535 * 65535 = mul-le (root (10000 * square) + 1) (root (10000 * square) + 1) 65535 65535 (omega arith) (omega arith) in
+          | inl l ↦ (let q : (root (10000 * square) + 1) * (root (10000 * square) + 1) ≤ 65535 * 65535 =
+              mul-le (root (10000 * square) + 1) (root (10000 * square) + 1) 65535 65535 (omega arith) (omega arith) in
               absurd (omega (arith, q, k.high, m)))
           | inr n ↦ n
         ] in
@@ -87,7 +89,8 @@ no_level v h = elim (cases_lt v 65535) [
 -- ---- bytes
 
 -- two bytes for each square, of which the number is the level
-module _ (number : ℕ → ℕ → ℕ) (pair : ℕ → List ℕ) (first second : ℕ → ℕ) (two : (n : ℕ) → pair n ≡ first n ∷ second n ∷ []) (back : (n : ℕ) → n < 65536 → number (first n) (second n) ≡ n) where
+module _ (number : ℕ → ℕ → ℕ) (pair : ℕ → List ℕ) (first second : ℕ → ℕ) (two : (n : ℕ) → pair n ≡ first n ∷ second n ∷ [])
+    (back : (n : ℕ) → n < 65536 → number (first n) (second n) ≡ n) where
   pairs : List ℕ → List ℕ
   pairs squares = flat_map (λ s. pair (level s)) squares
 

@@ -1,6 +1,7 @@
 -- The raw PBM of a picture spells it, and so do the bytes of a volume.
 -- Laws of bytes and pictures; no report stands here.
-use Rattle.std.proofs.Common.{◌≡◌, ℕ, ◌+◌, ◌-◌, ◌*◌, ◌/◌, ◌^◌, ◌<◌, ◌≤◌, Bool, true, false, pos, List, [], ◌∷◌, ◌++◌, length, get_or, map, All, refl, sym, ap, subst, ◌∙◌, arith, length-append, append_assoc}
+use Rattle.std.proofs.Common.{◌≡◌, ℕ, ◌+◌, ◌-◌, ◌*◌, ◌/◌, ◌^◌, ◌<◌, ◌≤◌, Bool, true, false, pos, List, [], ◌∷◌, ◌++◌, length, get_or, map, All, refl, sym, ap}
+use Rattle.std.proofs.Common.{subst, ◌∙◌, arith, length-append, append_assoc}
 use Rattle.std.specs.Prelude.{fold}
 use Rattle.std.specs.List.{concat, flat_map, range_with_len, AllByRecursion}
 use Rattle.std.specs.Int.{div_ceil}
@@ -18,7 +19,8 @@ use Rattle.shape_terms.specs.Limits.{most_flat, most_bytes}
 use Rattle.shape_terms.specs.Points.{AreSides, box_points, box_count}
 use Rattle.shape_terms.specs.Pictures.{Picture, at}
 use Rattle.shape_terms.proofs.BoxLists.{values_are}
-use Rattle.shape_picture.specs.Pbm.{Pbm, IsDigit, IsSide, IsGap, IsGapPiece, IsOneWhite, IsInWidth, IsInHeight, IsInRaster, AreRows, number_value, magic, row_bytes, row_pixels}
+use Rattle.shape_picture.specs.Pbm.{Pbm, IsDigit, IsSide, IsGap, IsGapPiece, IsOneWhite, IsInWidth, IsInHeight, IsInRaster, AreRows, number_value, magic}
+use Rattle.shape_picture.specs.Pbm.{row_bytes, row_pixels}
 use Rattle.shape_picture.specs.declared.header.Form.TheVariants.{Packed}
 use Rattle.shape_picture.specs.Raw.{Raw, is_object}
 use Rattle.shape_picture.specs.Answers.{SpellsPicture}
@@ -84,7 +86,8 @@ row_by_row : (X : Picture) (w h : ℕ) → X.sides ≡ w ∷ h ∷ [] → length
     → X.values ≡ flat_map (λ y. map (λ x. at X (pos x ∷ pos y ∷ [])) (range_with_len 0 w)) (range_with_len 0 h)
 row_by_row X w h e filled =
     let columns = map (λ y. pos y ∷ []) (range_with_len 0 h) in
-    sym (values_are X filled) ∙ ap (λ s. map (at X) (box_points s)) e ∙ ap (λ l. map (at X) (flat_map (λ p. map (λ x. pos x ∷ p) (range_with_len 0 w)) l)) (append-nil columns)
+    sym (values_are X filled) ∙ ap (λ s. map (at X) (box_points s)) e ∙ ap (λ l. map (at X) (flat_map (λ p. map (λ x. pos x ∷ p) (range_with_len 0 w)) l))
+    (append-nil columns)
     ∙ map_flat_map (at X) (λ p. map (λ x. pos x ∷ p) (range_with_len 0 w)) columns
     ∙ flat_map-map (λ p. map (at X) (map (λ x. pos x ∷ p) (range_with_len 0 w))) (λ y. pos y ∷ []) (range_with_len 0 h)
     ∙ flat_map_same _ _ (λ y. map_map (at X) (λ x. pos x ∷ pos y ∷ []) (range_with_len 0 w)) (range_with_len 0 h)
@@ -128,7 +131,8 @@ module _ (X : Picture) (w h : ℕ) (e : X.sides ≡ w ∷ h ∷ []) (filled : le
     as_many = length-map-range_with_len (row X) 0 h;
     row_length = rows_long;
     bytes_are = concat_map (row X) (range_with_len 0 h);
-    values_are = row_by_row X w h e filled ∙ sym (flat_map-map (row_pixels w) (row X) (range_with_len 0 h) ∙ flat_map_same _ _ pixels_back (range_with_len 0 h));
+    values_are = row_by_row X w h e filled
+        ∙ sym (flat_map-map (row_pixels w) (row X) (range_with_len 0 h) ∙ flat_map_same _ _ pixels_back (range_with_len 0 h));
   }
 
   -- how many bytes the rows have
@@ -149,7 +153,8 @@ module _ (X : Picture) (w h : ℕ) (e : X.sides ≡ w ∷ h ∷ []) (filled : le
 bytes_of : (w h : ℕ) (raster : List ℕ) → List ℕ
 bytes_of w h raster = ((magic Packed ++ 10 ∷ []) ++ decimal w ++ 32 ∷ [] ++ decimal h) ++ 10 ∷ [] ++ raster
 
-module _ (X : Picture) (w h : ℕ) (raster : List ℕ) (e : X.sides ≡ w ∷ h ∷ []) (filled : length X.values ≡ box_count X.sides) (rows : AreRows w h raster X.values) (a : 1 ≤ w) (b : w ≤ most_flat) (c : 1 ≤ h) (d : h ≤ most_flat) where
+module _ (X : Picture) (w h : ℕ) (raster : List ℕ) (e : X.sides ≡ w ∷ h ∷ []) (filled : length X.values ≡ box_count X.sides)
+    (rows : AreRows w h raster X.values) (a : 1 ≤ w) (b : w ≤ most_flat) (c : 1 ≤ h) (d : h ≤ most_flat) where
   in_width : IsInWidth Packed most_flat ((magic Packed ++ 10 ∷ []) ++ decimal w) (decimal w)
   in_width = record {
     gap = 10 ∷ [];
@@ -198,11 +203,16 @@ module _ (X : Picture) (w h : ℕ) (raster : List ℕ) (e : X.sides ≡ w ∷ h 
         width = decimal w;
         height = decimal h;
         raster = raster;
-        front = subst (λ t. IsInRaster Packed most_flat t (decimal w) (decimal h) raster) (sym (take_all n (bytes_of w h raster) (omega (arith, size)))) in_raster;
+        front = subst (λ t. IsInRaster Packed most_flat t (decimal w) (decimal h) raster) (sym (take_all n (bytes_of w h raster) (omega (arith, size))))
+            in_raster;
         sides = e ∙ sym (ap (λ k. k ∷ number_value (decimal h) ∷ []) u ∙ ap (λ k. w ∷ k ∷ []) v);
         values = subst (λ k. AreRows k (number_value (decimal h)) raster X.values) (sym u) (subst (λ k. AreRows w k raster X.values) (sym v) rows);
         filled = filled;
-        last = (n - 1, omega (arith, some, size), (get_or (bytes_of w h raster) (n - 1) 0, slice_get-get_or (bytes_of w h raster) (n - 1) 0 (omega (arith, some, size)), refl));
+        last = (
+          n - 1,
+          omega (arith, some, size),
+          (get_or (bytes_of w h raster) (n - 1) 0, slice_get-get_or (bytes_of w h raster) (n - 1) 0 (omega (arith, some, size)), refl),
+        );
         short = short;
       }
 
@@ -210,7 +220,8 @@ header_is : (w h : ℕ) (raster : List ℕ) → header (magic Packed) w h ++ ras
 unfolding bytes_of
 header_is w h raster = simp append_assoc
 
-header_few : (w h : ℕ) (raster : List ℕ) → w ≤ most_flat → h ≤ most_flat → length raster ≤ most_flat * (most_flat / 8) → length (header (magic Packed) w h ++ raster) ≤ most_bytes
+header_few : (w h : ℕ) (raster : List ℕ) → w ≤ most_flat → h ≤ most_flat → length raster ≤ most_flat * (most_flat / 8)
+    → length (header (magic Packed) w h ++ raster) ≤ most_bytes
 header_few w h raster a b c =
     let u = length-decimal-le 5 w (omega arith) (omega arith) (omega arith) in
     let v = length-decimal-le 5 h (omega arith) (omega arith) (omega arith) in
@@ -239,4 +250,5 @@ picture_spelled X stands =
     let whole = header_is w h raster in
     let few = header_few w h raster b d (few_bytes X w h e filled b d) in
     let n = length (bytes_of w h raster) in
-    subst (SpellsPicture most_flat most_bytes X) (sym whole) (n, spelled_so X w h raster e filled (are_rows X w h e filled) a b c d n refl (omega (arith, few, ap length whole)))
+    subst (SpellsPicture most_flat most_bytes X) (sym whole)
+    (n, spelled_so X w h raster e filled (are_rows X w h e filled) a b c d n refl (omega (arith, few, ap length whole)))

@@ -21,11 +21,11 @@ use Rattle.report_lines.proofs.Holding.{lines_in_order}
 use Rattle.report_lines.proofs.LeftTold.{leaves}
 use Rattle.report_lines.proofs.OneReading.{one_reading}
 use Rattle.report_lines.proofs.Telling.{holding_tells}
-use Rattle.report_making.specs.Made.{IsSpace, exactly}
-use Rattle.report_making.specs.Runs.{Ran}
-use Rattle.report_making.specs.Complete.{FileIs}
-use Rattle.report_making.specs.declared.outcome.Outcome.TheVariants.{Done}
-use Rattle.report_making.proofs.Written.{writes_of}
+use Rattle.report_lines.specs.Made.{IsSpace, exactly}
+use Rattle.report_lines.specs.Runs.{Ran}
+use Rattle.report_lines.specs.Complete.{FileIs}
+use Rattle.report_lines.specs.declared.outcome.Outcome.TheVariants.{Done}
+use Rattle.report_lines.proofs.Written.{writes_of}
 use Rattle.masking.specs.Pictures.{squared_diameters}
 use Rattle.masking.specs.Levels.{IsLevel, AreLevels, AreDepths, number_at}
 use Rattle.masking.specs.Masks.{points_mask, distances_mask, mask_bytes}
@@ -41,7 +41,8 @@ use Rattle.masking.proofs.ThicknessLaws.{diameters_shown}
 
 pub points_shown : (s : Space) → IsSpace s → (Y : Picture) → StandsIn s Y → Spell s.axes Y (points_mask s.axes Y)
 points_shown s (inl e) Y stands = subst (λ (u : Space). StandsIn u Y → Spell u.axes Y (points_mask u.axes Y)) (sym e) (picture_spelled Y) stands
-points_shown s (inr e) Y stands = subst (λ (u : Space). StandsIn u Y → Spell u.axes Y (points_mask u.axes Y)) (sym e) (λ t. volume_spelled Y t.picture.filled) stands
+points_shown s (inr e) Y stands = subst (λ (u : Space). StandsIn u Y → Spell u.axes Y (points_mask u.axes Y)) (sym e) (λ t. volume_spelled Y t.picture.filled)
+    stands
 
 -- ---- distances
 
@@ -59,7 +60,8 @@ module _ (number : ℕ → ℕ → ℕ) (X : Picture) (squares bytes : List ℕ)
         no_level (number_at number bytes i) (subst (λ k. IsLevel k (number_at number bytes i)) none (levels.each i n (square_at i l)));
   }
 
-pub depths_shown : (s : Space) → IsSpace s → (X : Picture) (squares : List ℕ) → AreSquares X squares → ShowDepths s.axes X (distances_mask s.axes X.sides squares)
+pub depths_shown : (s : Space) → IsSpace s → (X : Picture) (squares : List ℕ) → AreSquares X squares
+    → ShowDepths s.axes X (distances_mask s.axes X.sides squares)
 depths_shown s (inl e) X squares are =
     let g = grey_levels X.sides squares in
     subst (λ (u : Space). ShowDepths u.axes X (distances_mask u.axes X.sides squares)) (sym e) (g.0, g.1, depths_of _ X squares g.0 are g.2)
@@ -103,13 +105,16 @@ module _ (s : Space) (known : IsSpace s) (X : Subject) (text : List ℕ) (stands
   shown Skeleton = left_shown
   shown Object = subst (λ Y. Spell s.axes X.picture (points_mask s.axes Y)) (sym tells.object) (points_shown s known X.picture stands)
   shown Distances =
-      subst (λ (Y : Picture). ShowDepths s.axes X.picture (distances_mask s.axes Y.sides (said tells.lines).squares)) (sym tells.object) (depths_shown s known X.picture (said tells.lines).squares tells.squares)
+      subst (λ (Y : Picture). ShowDepths s.axes X.picture (distances_mask s.axes Y.sides (said tells.lines).squares)) (sym tells.object)
+      (depths_shown s known X.picture (said tells.lines).squares tells.squares)
   shown Squares = squares_shown s known X.picture stands (said tells.lines).squares tells.squares
   shown Thickness =
       let squares = (said tells.lines).squares in
-      subst (λ (Y : Picture). ShowDiameters s.axes X.picture (distances_mask s.axes Y.sides (squared_diameters Y squares))) (sym tells.object) (diameters_shown s known X.picture stands squares tells.squares)
+      subst (λ (Y : Picture). ShowDiameters s.axes X.picture (distances_mask s.axes Y.sides (squared_diameters Y squares))) (sym tells.object)
+      (diameters_shown s known X.picture stands squares tells.squares)
 
-pub masks_shown : (mask : Mask) (s : Space) (X : Subject) (name text : List ℕ) (old new : DeskState) → IsSpace s → StandsIn s X.picture → Holds X text → FileIs old.files name (λ bytes. bytes ≡ text) → Ran (exactly (mask_bytes mask)) name old new Done
+pub masks_shown : (mask : Mask) (s : Space) (X : Subject) (name text : List ℕ) (old new : DeskState) → IsSpace s → StandsIn s X.picture → Holds X text
+    → FileIs old.files name (λ bytes. bytes ≡ text) → Ran (exactly (mask_bytes mask)) name old new Done
     → WritesShown mask s.axes X text old new
 masks_shown mask s X name text old new known stands holds file ran =
     let tells = holding_tells s X text holds stands in

@@ -1,6 +1,7 @@
 -- The numbers that a mask of squares tells: each is its square, or 4294967295 where that is greater, and stands at its place.
 -- The squares of a report that holds are all less, since two points of a framed box are never so far apart.
-use Rattle.std.proofs.Common.{◌≡◌, ◌⊎◌, inl, inr, ℕ, zero, suc, ◌+◌, ◌*◌, ◌<◌, ◌≤◌, ◌^◌, List, [], ◌∷◌, ◌++◌, length, get_or, map, refl, sym, ap, subst, ◌∙◌, arith, ℤ, pos}
+use Rattle.std.proofs.Common.{◌≡◌, ◌⊎◌, inl, inr, ℕ, zero, suc, ◌+◌, ◌*◌, ◌<◌, ◌≤◌, ◌^◌, List, [], ◌∷◌, ◌++◌, length, get_or, map, refl, sym, ap, subst, ◌∙◌}
+use Rattle.std.proofs.Common.{arith, ℤ, pos}
 use Rattle.std.specs.Prelude.{◌≤ℤ◌, slice_get, Some, IsTrue}
 use Rattle.std.proofs.lemmas.Int.{ints}
 use Rattle.std.proofs.lemmas.List.{length-map}
@@ -21,7 +22,7 @@ use Rattle.shape_terms.proofs.NearestFound.{corner_background}
 use Rattle.shape_grid.proofs.SideLists.{naturals_kept}
 use Rattle.report_lines.specs.Reports.{Space}
 use Rattle.report_lines.specs.Tells.{StandsIn, AreSquares}
-use Rattle.report_making.specs.Made.{IsSpace}
+use Rattle.report_lines.specs.Made.{IsSpace}
 use Rattle.masking.specs.Pictures.{told_square, low_first32, square_bytes}
 use Rattle.masking.specs.Levels.{IsTold, AreTold, AreSquaredDepths, number32_at}
 
@@ -74,18 +75,22 @@ module _ (s : Space) (known : IsSpace s) (X : Picture) (stands : StandsIn s X) w
 
   no_farther : (i : ℕ) → apart X.sides i 0 < far
   no_farther i = elim known [
-    | inl e ↦ by_space (pos most_flat) (subst (λ u. AreSides u.greatest (map pos X.sides)) e stands.box) (omega (arith, ints)) (inl (stands.picture.axes ∙ ap (λ u. u.axes) e))
-    | inr e ↦ by_space (pos most_solid) (subst (λ u. AreSides u.greatest (map pos X.sides)) e stands.box) (omega (arith, ints)) (inr (stands.picture.axes ∙ ap (λ u. u.axes) e))
+    | inl e ↦ by_space (pos most_flat) (subst (λ u. AreSides u.greatest (map pos X.sides)) e stands.box) (omega (arith, ints))
+        (inl (stands.picture.axes ∙ ap (λ u. u.axes) e))
+    | inr e ↦ by_space (pos most_solid) (subst (λ u. AreSides u.greatest (map pos X.sides)) e stands.box) (omega (arith, ints))
+        (inr (stands.picture.axes ∙ ap (λ u. u.axes) e))
   ]
     where
-      by_space : (greatest : ℤ) → AreSides greatest (map pos X.sides) → greatest ≤ℤ pos most_flat → (length X.sides ≡ 2) ⊎ (length X.sides ≡ 3) → apart X.sides i 0 < far
+      by_space : (greatest : ℤ) → AreSides greatest (map pos X.sides) → greatest ≤ℤ pos most_flat → (length X.sides ≡ 2) ⊎ (length X.sides ≡ 3)
+          → apart X.sides i 0 < far
       by_space greatest box most few = apart_small X.sides (map pos X.sides) greatest i 0 (sym (naturals_kept X.sides)) box most (simp length-map few)
 
   -- no squared distance of a point of the box is too great for 32 bits
   pub few : (p : Point) (n : ℕ) → IsTrue (in_box X.sides p) → HasDistance X p n → n < 2 ^ 32
   few p n inside has =
       let h : n ≤ squared_distance p (framed_point X.sides 0) = has.1.least (framed_point X.sides 0) (corner_background X some) in
-      let e : apart X.sides (framed_number X.sides p) 0 ≡ squared_distance p (framed_point X.sides 0) = ap (λ q. squared_distance q (framed_point X.sides 0)) (framed_point-framed_number X.sides p (in_box_in_frame X.sides p inside)) in
+      let e : apart X.sides (framed_number X.sides p) 0 ≡ squared_distance p (framed_point X.sides 0) = ap (λ q. squared_distance q (framed_point X.sides 0))
+      (framed_point-framed_number X.sides p (in_box_in_frame X.sides p inside)) in
       omega (arith, h, e, no_farther (framed_number X.sides p))
 
   pub squares_shown : (squares : List ℕ) → AreSquares X squares → AreSquaredDepths X (square_bytes squares)
@@ -94,7 +99,8 @@ module _ (s : Space) (known : IsSpace s) (X : Picture) (stands : StandsIn s X) w
     object = λ i l t.
         let n = get_or squares i 0 in
         let has = are.object i n (square_at i l) t in
-        subst (HasDistance X (raster_point X.sides i)) (sym ((told.each i n (square_at i l)).exact (few (raster_point X.sides i) n (raster_point_in X.sides i l) has))) has;
+        subst (HasDistance X (raster_point X.sides i))
+        (sym ((told.each i n (square_at i l)).exact (few (raster_point X.sides i) n (raster_point_in X.sides i l) has))) has;
     background = λ i l f.
         let n = get_or squares i 0 in
         let none : n ≡ 0 = are.background i n (square_at i l) f in

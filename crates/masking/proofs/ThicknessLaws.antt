@@ -18,7 +18,7 @@ use Rattle.shape_thickness.proofs.GreatestSquares.{are_greatest}
 use Rattle.shape_thickness.proofs.ThicknessLaws.{greatest_are_thicknesses}
 use Rattle.report_lines.specs.Reports.{Space}
 use Rattle.report_lines.specs.Tells.{StandsIn, AreSquares}
-use Rattle.report_making.specs.Made.{IsSpace}
+use Rattle.report_lines.specs.Made.{IsSpace}
 use Rattle.masking.specs.Roots.{IsRoot}
 use Rattle.masking.specs.Pictures.{told_square, told_diameter, squared_diameters}
 use Rattle.masking.specs.Levels.{IsLevel, AreLevels, AreDiameters, number_at}
@@ -109,7 +109,8 @@ module _ (s : Space) (known : IsSpace s) (X : Picture) (stands : StandsIn s X) (
         (n, is, level_told (4 * n) (number_at number bytes i) (levels.each i (told_diameter n) (diameter_at i l)));
     background = λ i l f.
         let none : told_diameter (get_or thicknesses i 0) ≡ 0 = (let z = thick.background i l f in omega (arith, z)) in
-        no_level (number_at number bytes i) (subst (λ k. IsLevel k (number_at number bytes i)) none (levels.each i (told_diameter (get_or thicknesses i 0)) (diameter_at i l)));
+        no_level (number_at number bytes i)
+        (subst (λ k. IsLevel k (number_at number bytes i)) none (levels.each i (told_diameter (get_or thicknesses i 0)) (diameter_at i l)));
   }
 
   pub diameters_shown : ShowDiameters s.axes X (distances_mask s.axes X.sides (squared_diameters X squares))
@@ -118,5 +119,6 @@ module _ (s : Space) (known : IsSpace s) (X : Picture) (stands : StandsIn s X) (
         let g = grey_levels X.sides (squared_diameters X squares) in
         subst (λ (u : Space). ShowDiameters u.axes X (distances_mask u.axes X.sides (squared_diameters X squares))) (sym e) (g.0, g.1, diameters_of _ g.0 g.2))
     | inr e ↦
-        subst (λ (u : Space). ShowDiameters u.axes X (distances_mask u.axes X.sides (squared_diameters X squares))) (sym e) (diameters_of _ _ (low_levels (squared_diameters X squares)))
+        subst (λ (u : Space). ShowDiameters u.axes X (distances_mask u.axes X.sides (squared_diameters X squares))) (sym e)
+        (diameters_of _ _ (low_levels (squared_diameters X squares)))
   ]

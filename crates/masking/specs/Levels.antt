@@ -36,7 +36,8 @@ pub record IsTold (square v : ℕ) : Type 0 where
 
 -- the number that the bytes have at place i, four bytes for each place, the lowest of which comes first
 abbrev pub number32_at : List ℕ → ℕ → ℕ
-number32_at bytes i = slice_index bytes (4 * i) + 256 * slice_index bytes (4 * i + 1) + 65536 * slice_index bytes (4 * i + 2) + 16777216 * slice_index bytes (4 * i + 3)
+number32_at bytes i = slice_index bytes (4 * i) + 256 * slice_index bytes (4 * i + 1) + 65536 * slice_index bytes (4 * i + 2) + 16777216 * slice_index bytes
+    (4 * i + 3)
 
 -- the bytes have four for each square, and at its place the number that stands for it
 pub record AreTold (squares bytes : List ℕ) : Type 0 where
@@ -56,7 +57,8 @@ pub record AreSquaredDepths (X : Picture) (bytes : List ℕ) : Type 0 where
   pub object : (i : ℕ) → i < box_count X.sides → IsTrue (at X (raster_point X.sides i)) → HasDistance X (raster_point X.sides i) (number32_at bytes i)
   pub background : (i : ℕ) → i < box_count X.sides → at X (raster_point X.sides i) ≡ false → number32_at bytes i ≡ 0
 
--- the bytes have two for each point of the box, in raster order: at an object point the level of the squared diameter of the greatest ball of the object that holds it, and at any other 0
+-- the bytes have two for each point of the box, in raster order: at an object point the level of the squared diameter of the greatest ball of the object that
+-- holds it, and at any other 0
 pub record AreDiameters (number : ℕ → ℕ → ℕ) (X : Picture) (bytes : List ℕ) : Type 0 where
   pub as_many : length bytes ≡ 2 * box_count X.sides
   pub object : (i : ℕ) → i < box_count X.sides → IsTrue (at X (raster_point X.sides i))

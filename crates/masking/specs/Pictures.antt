@@ -85,6 +85,7 @@ square_bytes squares = flat_map (λ s. low_first32 (told_square s)) squares
 abbrev pub told_diameter : ℕ → ℕ
 told_diameter square = told_square (4 * square)
 
--- of each point of a box, in raster order, the squared diameter of the greatest ball that holds it, where a list gives the squared radius of the ball of each object point
+-- of each point of a box, in raster order, the squared diameter of the greatest ball that holds it, where a list gives the squared radius of the ball of each
+-- object point
 unfoldable pub squared_diameters : Picture → (squares : List ℕ) → List ℕ
 squared_diameters X squares = map told_diameter (greatest_squares X (map told_square squares))

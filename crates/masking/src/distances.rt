@@ -5,9 +5,9 @@ ghost use Rattle.std.specs.List.{flat_map};
 ghost use Rattle.masking.specs.Pictures.{level, high_first, low_first, pgm, depths};
 
 use crate::header::{put_header, side_of};
+use shape_cells::Squares;
 use shape_grid::Grid;
 use shape_space::{NoMemory, P2};
-use shape_squares::Squares;
 use std::alloc::Global;
 
 // A square whose distance is told as one that is greater: 65535 squared is below 10,000 times it.

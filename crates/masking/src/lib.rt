@@ -14,6 +14,6 @@ mod voxels;
 
 pub use law::{masks_are_pictures, masks_of_what_holds};
 pub use mask::Mask;
-pub use report_making::Outcome;
+pub use report_lines::Outcome;
 pub use thickness::greatest_balls;
 pub use top::{USAGE, run};

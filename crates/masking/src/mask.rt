@@ -8,8 +8,7 @@ use crate::distances::{depths, greys};
 use crate::squares::square_bytes;
 use crate::thickness::{thickness_depths, thickness_greys};
 use crate::voxels::voxels;
-use report_lines::{Heading, Seen};
-use report_making::Making;
+use report_lines::{Heading, Making, Seen};
 use shape_space::{NoMemory, P2, P3};
 use std::alloc::Global;
 
@@ -82,7 +81,7 @@ impl Mask {
 }
 
 impl Making for Mask {
-    ghost use Rattle.report_making.specs.Made.{exactly};
+    ghost use Rattle.report_lines.specs.Made.{exactly};
     ghost use Rattle.masking.specs.Masks.{mask_bytes};
 
     type Flat = Seen<P2>;

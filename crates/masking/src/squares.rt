@@ -3,8 +3,8 @@
 ghost use Rattle.std.specs.Prelude.{◌≡◌, ◌++◌, IfOk, OnOk};
 ghost use Rattle.masking.specs.Pictures.{told_square, low_first32, square_bytes};
 
+use shape_cells::Squares;
 use shape_space::NoMemory;
-use shape_squares::Squares;
 use std::alloc::Global;
 
 /// The number of 32 bits that stands for a square.

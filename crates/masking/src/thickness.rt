@@ -8,9 +8,9 @@ ghost use Rattle.masking.specs.Pictures.{told_square, told_diameter, squared_dia
 use crate::distances::{depths, greys};
 use crate::squares::told_square;
 use report_lines::Seen;
+use shape_cells::Squares;
 use shape_grid::Grid;
 use shape_space::{NoMemory, P2, P3, Point};
-use shape_squares::Squares;
 use shape_thickness::greatest;
 use std::alloc::Global;
 

@@ -1,14 +1,14 @@
 //! The top call: the mask of the report that a word names is written.
-//! What each outcome means for the desk stands in `report_making`.
+//! What each outcome means for the desk stands in `report_lines`.
 ghost use Rattle.std.specs.Prelude.{◌≡◌, ◌≢◌, ◌↔◌, ◌∷◌, [], ℕ, List};
 ghost use Rattle.shape_desk.specs.Files.{texts, KeepsFiles};
-ghost use Rattle.report_making.specs.Made.{exactly};
-ghost use Rattle.report_making.specs.Runs.{Ran};
+ghost use Rattle.report_lines.specs.Made.{exactly};
+ghost use Rattle.report_lines.specs.Runs.{Ran};
 ghost use Rattle.masking.specs.Masks.{mask_bytes};
 ghost use Rattle.masking.specs.Words.{mask_word};
 
 use crate::mask::{Mask, mask_called};
-use report_making::{Outcome, run_named};
+use report_lines::{Outcome, run_named};
 use shape_desk::Desk;
 use std::alloc::Global;
 

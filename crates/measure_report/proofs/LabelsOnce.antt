@@ -33,14 +33,16 @@ module _ (X : Picture) where
       omega (arith, r, e)
 
   -- two places with one label have one label by other labels too
-  carried : (ls ms : List ℕ) → LabelsObject X ls → LabelsObject X ms → (i k : ℕ) → i < box_count X.sides → k < box_count X.sides → Object X (raster_point X.sides i) → Object X (raster_point X.sides k) → get_or ls k 0 ≡ get_or ls i 0 → get_or ms k 0 ≡ get_or ms i 0
+  carried : (ls ms : List ℕ) → LabelsObject X ls → LabelsObject X ms → (i k : ℕ) → i < box_count X.sides → k < box_count X.sides
+      → Object X (raster_point X.sides i) → Object X (raster_point X.sides k) → get_or ls k 0 ≡ get_or ls i 0 → get_or ms k 0 ≡ get_or ms i 0
   carried ls ms l m i k bi bk oi ok e =
       let place = λ (xs : List ℕ) (j : ℕ) (b : j < box_count X.sides). ap (λ n. get_or xs n 0) (raster_number-raster_point X.sides j b) in
       let path = l.parts.1.connected (raster_point X.sides k) (raster_point X.sides i) ok oi (place ls k bk ∙ e ∙ sym (place ls i bi)) in
       sym (place ms k bk) ∙ along_path (λ p. get_or ms (raster_number X.sides p) 0) m.parts.1.adjacent path ∙ place ms i bi
 
   -- no label is less than the other, where those before it are the same
-  not_less : (ls ms : List ℕ) → LabelsObject X ls → LabelsObject X ms → (i : ℕ) → i < box_count X.sides → ((k : ℕ) → k < i → get_or ls k 0 ≡ get_or ms k 0) → get_or ls i 0 < get_or ms i 0 → ⊥
+  not_less : (ls ms : List ℕ) → LabelsObject X ls → LabelsObject X ms → (i : ℕ) → i < box_count X.sides → ((k : ℕ) → k < i → get_or ls k 0 ≡ get_or ms k 0)
+      → get_or ls i 0 < get_or ms i 0 → ⊥
   not_less ls ms l m i b same less =
       let object = object_at ms m i b (omega arith) in
       let some = some_label ls l i b object in
@@ -60,7 +62,8 @@ module _ (X : Picture) where
     | inr e ↦ (
         let same : (k : ℕ) → k < n → get_or ls k 0 ≡ get_or ms k 0 = λ k b. below ls ms l m n (omega arith) k b in
         let q : n ≡ i = omega arith in
-        let one : get_or ls n 0 ≡ get_or ms n 0 = at_one (not_less ls ms l m n (omega arith) same) (not_less ms ls m l n (omega arith) (λ k b. sym (same k b))) in
+        let one : get_or ls n 0 ≡ get_or ms n 0 = at_one (not_less ls ms l m n (omega arith) same) (not_less ms ls m l n (omega arith) (λ k b. sym (same k b)))
+        in
         subst (λ (j : ℕ). get_or ls j 0 ≡ get_or ms j 0) q one)
   ]
     where

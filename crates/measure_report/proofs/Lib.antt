@@ -1,9 +1,12 @@
 mod WantedWords
+mod WantedRuns
 mod TableMade
 mod Telling
 mod LabelsOnce
+mod FeretCells
 mod FeretsOnce
 mod Squares
+mod KeptColumns
 mod EllipsesMore
 mod FurtherOnce
 mod SameFurther

@@ -1,13 +1,13 @@
 -- Two reports of one picture that hold, with one number and one rule, have one table.
 -- Put together from the laws of what their lines tell, of labels, borders and Feret diameters.
-use Rattle.std.proofs.Common.{◌≡◌, inl, inr, ℕ, ◌+◌, ◌<◌, true, refl, ap, sym, ◌∙◌, subst, arith, List, [], ◌∷◌, ◌++◌, length, get_or}
-use Rattle.std.specs.Prelude.{IsTrue, codes, false}
+use Rattle.std.proofs.Common.{◌≡◌, inl, inr, ℕ, ◌<◌, true, refl, ap, sym, ◌∙◌, subst, arith, List, [], ◌∷◌, ◌++◌, length, get_or}
+use Rattle.std.specs.Prelude.{codes, false}
 use Rattle.std.proofs.lemmas.Bool.{cases_Bool, eqb-true}
 use Rattle.std.proofs.lemmas.List.{append-nil}
 use Rattle.std.proofs.lemmas.List.Elements.{recursion_from_All}
 use Rattle.std.proofs.lemmas.Option.{slice_get-get_or}
-use Rattle.shape_terms.specs.Points.{Point, in_box, box_points, raster_point}
-use Rattle.shape_terms.specs.Pictures.{Picture, at, object_points}
+use Rattle.shape_terms.specs.Points.{raster_point}
+use Rattle.shape_terms.specs.Pictures.{Picture, at}
 use Rattle.shape_terms.specs.Parts.{LabelsObject}
 use Rattle.shape_terms.specs.Shelves.{AreNames, names_of}
 use Rattle.shape_terms.specs.Thinning.{Rule, Stage, IsThinning}
@@ -20,25 +20,25 @@ use Rattle.report_terms.proofs.NamedRules.{one_on_shelf}
 use Rattle.report_lines.specs.Reports.{Space, IsReport, flat, solid}
 use Rattle.report_lines.specs.Said.{said}
 use Rattle.report_lines.specs.Tells.{StandsIn, AreSquares}
-use Rattle.report_making.specs.Made.{IsSpace}
+use Rattle.report_lines.specs.Made.{IsSpace}
 use Rattle.report_lines.proofs.Telling as Lines
 use Rattle.report_lines.proofs.TextLines.{one_list}
 use Rattle.measure_terms.specs.Facts.{facts}
 use Rattle.measure_terms.specs.Measures.{Measures, greatest}
 use Rattle.measure_terms.specs.Tables.{rows, IsTable}
 use Rattle.measure_terms.specs.Texts.{Columns, table_text}
-use Rattle.border_terms.specs.Borders.{Border, borders}
-use Rattle.border_terms.specs.Objects.{object_bounds}
-use Rattle.border_terms.specs.Shown.{IsFlat, BordersShow}
-use Rattle.border_terms.proofs.BordersOnce.{borders_once, starts_once}
+use Rattle.measure_terms.specs.Borders.{Border, borders}
+use Rattle.measure_terms.specs.Objects.{object_bounds}
+use Rattle.measure_terms.specs.Shown.{IsFlat, BordersShow}
+use Rattle.measure_terms.proofs.BordersOnce.{borders_once, starts_once}
 use Rattle.bordering.specs.OneMore.{no_bounds}
 use Rattle.measure_report.specs.BorderColumns.{tells_lengths, border_cells}
 use Rattle.measure_report.specs.FeretColumns.{feret_cells}
 use Rattle.measure_report.specs.MinkowskiColumns.{minkowski_cells}
 use Rattle.measure_report.specs.HullColumns.{hull_cells}
-use Rattle.measure_report.specs.RatioColumns.{ratio_cells, sizes_at}
+use Rattle.measure_report.specs.RatioColumns.{ratio_cells, ratio_names, sizes_at}
 use Rattle.measure_report.specs.Further.{Further, FurtherComponents}
-use Rattle.measure_report.specs.FurtherColumns.{further_columns}
+use Rattle.measure_report.specs.FurtherColumns.{further_columns, tells_distances}
 use Rattle.measure_report.specs.Tabled.{Opens, HasTable}
 use Rattle.measure_report.proofs.Telling.{borders_so}
 use Rattle.measure_report.proofs.LabelsOnce.{labels_once, same_list}
@@ -64,7 +64,8 @@ record TellAll (s : Space) (X : Subject) (name : List ℕ) (lines : List Line) :
   borders : s.axes ≡ 2 → BordersShow (number_of lines) X.picture (borders lines)
 
 -- the heading names the rule
-named : (X : Subject) (number : ℕ) (name : List ℕ) (lines : List Line) (rule : Rule) → Opens number name lines → NamesRule X.shelf (lines_of Section.Heading lines) rule → IsOnShelf X.shelf name rule
+named : (X : Subject) (number : ℕ) (name : List ℕ) (lines : List Line) (rule : Rule) → Opens number name lines
+    → NamesRule X.shelf (lines_of Section.Heading lines) rule → IsOnShelf X.shelf name rule
 named X number name lines rule o n =
     let first : Line.Shape o.heading ∷ lines_of Section.Heading o.rest ≡ Line.Shape n.heading ∷ [] = ap (lines_of Section.Heading) (sym o.first) ∙ n.first_is in
     let same : n.heading ≡ o.heading = heading_of first in
@@ -79,7 +80,8 @@ one_report s text ls ms a b =
     one_list s.axes ls ms (recursion_from_All (IsLineOf s.axes) ls a.whole.fields) (recursion_from_All (IsLineOf s.axes) ms b.whole.fields)
     (sym (append-nil (text_of ls)) ∙ sym a.whole.split ∙ b.whole.split ∙ append-nil (text_of ms))
 
-tell_all : (g : Groups) (s : Space) (X : Subject) (number : ℕ) (name text bytes : List ℕ) → StandsIn s X.picture → (h : HasTable g s X number name text bytes) → TellAll s X name h.lines
+tell_all : (g : Groups) (s : Space) (X : Subject) (number : ℕ) (name text bytes : List ℕ) → StandsIn s X.picture → (h : HasTable g s X number name text bytes)
+    → TellAll s X name h.lines
 tell_all g s X number name text bytes i h =
     let t = Lines.holding_tells s X text h.holds i in
     let same = one_report s text t.lines h.lines t.report h.report in
@@ -129,7 +131,8 @@ record SameRows (ls ms : List Line) (some other : List Measures) (labels others 
   labels_are : labels ≡ others
   rows_are : some ≡ other
 
-same_rows : (ls ms : List Line) (some other : List Measures) → Agree ls ms → (h : IsTable (said ls).object (said ls).squares (said ls).left some) → (k : IsTable (said ms).object (said ms).squares (said ms).left other) → SameRows ls ms some other h.labels k.labels
+same_rows : (ls ms : List Line) (some other : List Measures) → Agree ls ms → (h : IsTable (said ls).object (said ls).squares (said ls).left some)
+    → (k : IsTable (said ms).object (said ms).squares (said ms).left other) → SameRows ls ms some other h.labels k.labels
 same_rows ls ms some other a h k =
     let labels = labels_once (said ms).object h.labels k.labels (subst (λ (Y : Picture). LabelsObject Y h.labels) a.object h.named) k.named in
     let o = a.object in
@@ -139,14 +142,16 @@ same_rows ls ms some other a h k =
 
 -- ---- borders
 
-same_borders : (n m number : ℕ) (X : Picture) (bs cs : List Border) → n ≡ number → m ≡ number → IsFlat X → BordersShow n X bs → BordersShow m X cs → tells_lengths number ≡ true → bs ≡ cs
+same_borders : (n m number : ℕ) (X : Picture) (bs cs : List Border) → n ≡ number → m ≡ number → IsFlat X → BordersShow n X bs → BordersShow m X cs
+    → tells_lengths number ≡ true → bs ≡ cs
 same_borders n m number X bs cs e f flat a b told =
     let two : number ≡ 2 = eqb-true number 2 told in
     borders_once X bs cs flat.axes (a.lengths (e ∙ two) flat) (b.lengths (f ∙ two) flat)
 
 -- ---- the tables
 
-module _ (g : Groups) (s : Space) (X : Subject) (number : ℕ) (name text other bytes more : List ℕ) (names : AreNames (names_of X.shelf)) (known : IsSpace s) (i : StandsIn s X.picture)
+module _ (g : Groups) (s : Space) (X : Subject) (number : ℕ) (name text other bytes more : List ℕ) (names : AreNames (names_of X.shelf)) (known : IsSpace s)
+    (i : StandsIn s X.picture)
     (h : HasTable g s X number name text bytes) (k : HasTable g s X number name other more) where
   a : TellAll s X name h.lines
   a = tell_all g s X number name text bytes i h
@@ -180,13 +185,16 @@ module _ (g : Groups) (s : Space) (X : Subject) (number : ℕ) (name text other 
   -- what the further columns of the one table and of the other tell of the components
   mine : FurtherComponents g s.axes (said k.lines).object labels (length table) h.table.further
   mine =
-      let first = further_measure g s.axes (said h.lines).object (said h.lines).left (said h.lines).squares h.table.rows h.table.further (balls h.lines a) h.table.table h.table.are in
+      let first = further_measure g s.axes (said h.lines).object (said h.lines).left (said h.lines).squares h.table.rows h.table.further (balls h.lines a)
+      h.table.table h.table.are in
       subst (λ (Y : Picture). FurtherComponents g s.axes Y labels (length table) h.table.further) same.object
       (subst (λ (ls : List ℕ). FurtherComponents g s.axes (said h.lines).object ls (length table) h.table.further) same_row.labels_are
-      (subst (λ (ms : List Measures). FurtherComponents g s.axes (said h.lines).object h.table.table.labels (length ms) h.table.further) same_row.rows_are first))
+      (subst (λ (ms : List Measures). FurtherComponents g s.axes (said h.lines).object h.table.table.labels (length ms) h.table.further) same_row.rows_are
+      first))
 
   theirs : FurtherComponents g s.axes (said k.lines).object labels (length table) k.table.further
-  theirs = further_measure g s.axes (said k.lines).object (said k.lines).left (said k.lines).squares k.table.rows k.table.further (balls k.lines b) k.table.table k.table.are
+  theirs = further_measure g s.axes (said k.lines).object (said k.lines).left (said k.lines).squares k.table.rows k.table.further (balls k.lines b)
+      k.table.table k.table.are
 
   entries : (j : ℕ) → j < length table → SameEntries g s.axes h.table.further k.table.further j
   entries j l = further_once g s.axes (said k.lines).object labels (length table) h.table.further k.table.further mine theirs j l
@@ -198,8 +206,10 @@ module _ (g : Groups) (s : Space) (X : Subject) (number : ℕ) (name text other 
   same_border two is_flat j =
       let p = a.borders two in
       let q = b.borders two in
-      same_cells (tells_lengths number) sides labels (greatest labels) (borders h.lines) (borders k.lines) j (starts_once X.picture (borders h.lines) (borders k.lines) p.begin q.begin)
-      (same_borders (number_of h.lines) (number_of k.lines) number X.picture (borders h.lines) (borders k.lines) (number_is h.lines h.opens) (number_is k.lines k.opens) is_flat p q)
+      same_cells (tells_lengths number) sides labels (greatest labels) (borders h.lines) (borders k.lines) j
+      (starts_once X.picture (borders h.lines) (borders k.lines) p.begin q.begin)
+      (same_borders (number_of h.lines) (number_of k.lines) number X.picture (borders h.lines) (borders k.lines) (number_is h.lines h.opens)
+      (number_is k.lines k.opens) is_flat p q)
 
   -- the cells of ratios
   same_ratio : s.axes ≡ 2 → IsFlat X.picture → (j : ℕ) → j < length table
@@ -207,22 +217,25 @@ module _ (g : Groups) (s : Space) (X : Subject) (number : ℕ) (name text other 
       ≡ ratio_cells (tells_lengths number) (sizes_at (areas_of table) k.table.further.hulls (object_bounds sides labels (greatest labels) (borders k.lines)) j)
   same_ratio two is_flat j l =
       let e = entries j l in
-      same_ratios (tells_lengths number) (areas_of table) h.table.further.hulls k.table.further.hulls sides labels (greatest labels) (borders h.lines) (borders k.lines) j (e.hulls two)
-      (same_borders (number_of h.lines) (number_of k.lines) number X.picture (borders h.lines) (borders k.lines) (number_is h.lines h.opens) (number_is k.lines k.opens) is_flat (a.borders two) (b.borders two))
+      same_ratios (tells_lengths number) (areas_of table) h.table.further.hulls k.table.further.hulls sides labels (greatest labels) (borders h.lines)
+      (borders k.lines) j (e.hulls two)
+      (same_borders (number_of h.lines) (number_of k.lines) number X.picture (borders h.lines) (borders k.lines) (number_is h.lines h.opens)
+      (number_is k.lines k.opens) is_flat (a.borders two) (b.borders two))
 
   -- the further columns of a table of the labels, rows and number of the other
   columns : List Border → Further → Columns
   columns bs f = further_columns g s.axes number sides labels bs (areas_of table) f
 
   -- the text of the first table by these
-  moved : bytes ≡ table_text s.axes (columns (borders h.lines) h.table.further) table
+  moved : bytes ≡ table_text (tells_distances g s.axes) s.axes (columns (borders h.lines) h.table.further) table
   unfolding columns
   moved =
       let nh = number_is h.lines h.opens in
       let o = same.object in
       let ls = same_row.labels_are in
       let rs = same_row.rows_are in
-      h.table.text ∙ (λ z. table_text s.axes (further_columns g s.axes (nh z) (o z).sides (ls z) (borders h.lines) (areas_of (rs z)) h.table.further) (rs z))
+      h.table.text ∙ (λ z. table_text (tells_distances g s.axes) s.axes
+      (further_columns g s.axes (nh z) (o z).sides (ls z) (borders h.lines) (areas_of (rs z)) h.table.further) (rs z))
 
   -- where names and cells are the same the tables are
   one : (columns (borders h.lines) h.table.further).names ≡ (columns (borders k.lines) k.table.further).names
@@ -232,8 +245,9 @@ module _ (g : Groups) (s : Space) (X : Subject) (number : ℕ) (name text other 
   one names cells =
       let nk = number_is k.lines k.opens in
       moved
-      ∙ same_table s.axes (columns (borders h.lines) h.table.further) (columns (borders k.lines) k.table.further) table names cells
-      ∙ (λ z. table_text s.axes (further_columns g s.axes (sym nk z) sides labels (borders k.lines) (areas_of table) k.table.further) table)
+      ∙ same_table (tells_distances g s.axes) s.axes (columns (borders h.lines) h.table.further) (columns (borders k.lines) k.table.further) table names cells
+      ∙ (λ z. table_text (tells_distances g s.axes) s.axes (further_columns g s.axes (sym nk z) sides labels (borders k.lines) (areas_of table) k.table.further)
+      table)
       ∙ sym k.table.text
 
 pub solid_once : (g : Groups) (X : Subject) (number : ℕ) (name text other bytes more : List ℕ) → AreNames (names_of X.shelf) → StandsIn solid X.picture
@@ -242,10 +256,12 @@ unfolding columns
 solid_once g X number name text other bytes more names i h k =
     let f = h.table.further in
     let u = k.table.further in
-    one g solid X number name text other bytes more names (inr refl) i h k (solid_names g f u) (λ j l. same_solid g f u j (entries g solid X number name text other bytes more names (inr refl) i h k j l))
+    one g solid X number name text other bytes more names (inr refl) i h k (solid_names g (areas_of k.table.rows) f u)
+    (λ j l. same_solid g (areas_of k.table.rows) f u j (entries g solid X number name text other bytes more names (inr refl) i h k j l))
 
 -- a row of flat objects whose parts are the same
-flat_row : {a b c d e f a2 b2 c2 d2 e2 f2 : List ℕ} → a ≡ a2 → b ≡ b2 → c ≡ c2 → d ≡ d2 → e ≡ e2 → f ≡ f2 → a ++ (b ++ (c ++ (d ++ (e ++ f)))) ≡ a2 ++ (b2 ++ (c2 ++ (d2 ++ (e2 ++ f2))))
+flat_row : {a b c d e f a2 b2 c2 d2 e2 f2 : List ℕ} → a ≡ a2 → b ≡ b2 → c ≡ c2 → d ≡ d2 → e ≡ e2 → f ≡ f2
+    → a ++ (b ++ (c ++ (d ++ (e ++ f)))) ≡ a2 ++ (b2 ++ (c2 ++ (d2 ++ (e2 ++ f2))))
 flat_row a b c d e f = λ z. a z ++ (b z ++ (c z ++ (d z ++ (e z ++ f z))))
 
 pub flat_once : (g : Groups) (X : Subject) (number : ℕ) (name text other bytes more : List ℕ) → AreNames (names_of X.shelf) → StandsIn flat X.picture
@@ -258,9 +274,10 @@ flat_once g X number name text other bytes more names i h k =
     let heads = flat_names g f u in
     one g flat X number name text other bytes more names (inl refl) i h k
     (λ z. codes ",holes,border,hole_border" ++ (codes ",feret,from_x,from_y,to_x,to_y" ++ (codes ",euler"
-    ++ (codes ",convex_area,convex_perimeter,min_feret,side_x,side_y" ++ (codes ",solidity,circularity" ++ heads z)))))
+    ++ (codes ",convex_area,convex_perimeter,min_feret,side_x,side_y" ++ (ratio_names ++ heads z)))))
     (λ j l.
     let border = same_border g flat X number name text other bytes more names (inl refl) i h k refl is_flat j in
     let ratio = same_ratio g flat X number name text other bytes more names (inl refl) i h k refl is_flat j l in
     let e = entries g flat X number name text other bytes more names (inl refl) i h k j l in
-    flat_row border (ap feret_cells (e.ferets refl)) (ap (minkowski_cells false) e.minkowski) (ap hull_cells (e.hulls refl)) ratio (flat_groups g f u j e))
+    flat_row border (ap (feret_cells false) (e.ferets false)) (ap (minkowski_cells false) e.minkowski) (ap hull_cells (e.hulls refl)) ratio
+    (flat_groups g f u j e))

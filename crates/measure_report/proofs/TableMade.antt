@@ -1,6 +1,6 @@
 -- The table that is made is that of the lines whose sketch was kept.
 -- Lists alone; nothing is read here.
-use Rattle.std.proofs.Common.{◌≡◌, ℕ, Bool, List, [], ◌∷◌, map, refl, ap, ◌∙◌, subst}
+use Rattle.std.proofs.Common.{◌≡◌, ℕ, Bool, true, List, [], ◌∷◌, map, refl, ap, ◌∙◌, subst}
 use Rattle.shape_terms.specs.Pictures.{Picture}
 use Rattle.shape_terms.specs.Parts.{LabelsObject}
 use Rattle.report_terms.specs.Lines.{Line}
@@ -12,11 +12,11 @@ use Rattle.measure_terms.specs.Tables.{rows, IsTable}
 use Rattle.measuring.specs.Told.{measures_told}
 use Rattle.measuring.specs.declared.row.Measures as Program
 use Rattle.measure_terms.specs.Texts.{table_text}
-use Rattle.border_terms.specs.Borders.{Border, borders}
-use Rattle.border_terms.specs.Objects.{Bounds, object_bounds}
+use Rattle.measure_terms.specs.Borders.{Border, borders}
+use Rattle.measure_terms.specs.Objects.{Bounds, object_bounds}
 use Rattle.measure_report.specs.BorderColumns.{tells_lengths}
 use Rattle.measure_report.specs.Further.{Further, AreFurther}
-use Rattle.measure_report.specs.FurtherColumns.{flat_columns, solid_columns}
+use Rattle.measure_report.specs.FurtherColumns.{flat_columns, solid_columns, tells_distances}
 use Rattle.measure_report.specs.TableTexts.{IsTableText}
 use Rattle.measure_report.specs.declared.groups.Groups.{Groups}
 
@@ -32,14 +32,16 @@ pub record AreSaid (lines : List Line) (object : Picture) (squares : List ℕ) (
   pub squares_are : squares ≡ (said lines).squares
   pub left_is : left ≡ (said lines).left
 
-pub are_said : (lines : List Line) (s : Said) (object : Picture) (squares : List ℕ) (left : Picture) → s ≡ said lines → object ≡ s.object → squares ≡ s.squares → left ≡ s.left → AreSaid lines object squares left
+pub are_said : (lines : List Line) (s : Said) (object : Picture) (squares : List ℕ) (left : Picture) → s ≡ said lines → object ≡ s.object → squares ≡ s.squares
+    → left ≡ s.left → AreSaid lines object squares left
 are_said lines s object squares left e o q l = record {
   object_is = o ∙ ap (λ (z : Said). z.object) e;
   squares_are = q ∙ ap (λ (z : Said). z.squares) e;
   left_is = l ∙ ap (λ (z : Said). z.left) e;
 }
 
-table_of : (lines : List Line) (object : Picture) (squares : List ℕ) (left : Picture) (labels : List ℕ) (count : ℕ) (ms : List Measures) → AreSaid lines object squares left → HasRows object squares left labels count ms → IsTable (said lines).object (said lines).squares (said lines).left ms
+table_of : (lines : List Line) (object : Picture) (squares : List ℕ) (left : Picture) (labels : List ℕ) (count : ℕ) (ms : List Measures)
+    → AreSaid lines object squares left → HasRows object squares left labels count ms → IsTable (said lines).object (said lines).squares (said lines).left ms
 table_of lines object squares left labels count ms e h =
     let many = h.count_is in
     let o = e.object_is in
@@ -64,9 +66,10 @@ are_further g d lines object squares left labels count f e many a =
 abbrev pub areas_of : List Measures → List ℕ
 areas_of ms = map (λ (m : Measures). m.area) ms
 
-pub solid_made : (g : Groups) (lines : List Line) (object : Picture) (squares : List ℕ) (left : Picture) (labels : List ℕ) (count : ℕ) (ms : List Measures) (f : Further) (bytes : List ℕ)
+pub solid_made : (g : Groups) (lines : List Line) (object : Picture) (squares : List ℕ) (left : Picture) (labels : List ℕ) (count : ℕ) (ms : List Measures)
+    (f : Further) (bytes : List ℕ)
     → AreSaid lines object squares left → HasRows object squares left labels count ms → AreFurther g 3 object squares labels count f
-    → bytes ≡ table_text 3 (solid_columns g f) ms → IsTableText g 3 lines bytes
+    → bytes ≡ table_text (tells_distances g 3) 3 (solid_columns g (areas_of ms) f) ms → IsTableText g 3 lines bytes
 unfolding table_of
 solid_made g lines object squares left labels count ms f bytes e h a t = record {
   rows = ms;
@@ -76,21 +79,25 @@ solid_made g lines object squares left labels count ms f bytes e h a t = record 
   text = t;
 }
 
-pub flat_made : (g : Groups) (lines : List Line) (object : Picture) (squares : List ℕ) (left : Picture) (labels : List ℕ) (count : ℕ) (ms : List Measures) (told : Bool) (bs : List Border)
+pub flat_made : (g : Groups) (lines : List Line) (object : Picture) (squares : List ℕ) (left : Picture) (labels : List ℕ) (count : ℕ) (ms : List Measures)
+    (told : Bool) (bs : List Border)
     (areas : List ℕ) (all : List Bounds) (f : Further) (bytes : List ℕ)
-    → AreSaid lines object squares left → HasRows object squares left labels count ms → told ≡ tells_lengths (number_of lines) → bs ≡ borders lines → areas ≡ areas_of ms
-    → all ≡ object_bounds object.sides labels count bs → AreFurther g 2 object squares labels count f → bytes ≡ table_text 2 (flat_columns g told areas all f) ms → IsTableText g 2 lines bytes
+    → AreSaid lines object squares left → HasRows object squares left labels count ms → told ≡ tells_lengths (number_of lines) → bs ≡ borders lines
+    → areas ≡ areas_of ms
+    → all ≡ object_bounds object.sides labels count bs → AreFurther g 2 object squares labels count f
+    → bytes ≡ table_text true 2 (flat_columns g told areas all f) ms → IsTableText g 2 lines bytes
 unfolding table_of
 flat_made g lines object squares left labels count ms told bs areas all f bytes e h tells border area bound a t =
     let whole = ap (λ (z : Picture). z.sides) e.object_is in
     let many = h.count_is in
-    let bounds : all ≡ object_bounds (said lines).object.sides labels (greatest labels) (borders lines) = bound ∙ (λ i. object_bounds (whole i) labels (many i) (border i)) in
+    let bounds : all ≡ object_bounds (said lines).object.sides labels (greatest labels) (borders lines) = bound
+    ∙ (λ i. object_bounds (whole i) labels (many i) (border i)) in
     record {
       rows = ms;
       table = table_of lines object squares left labels count ms e h;
       further = f;
       are = are_further g 2 lines object squares left labels count f e many a;
-      text = t ∙ (λ i. table_text 2 (flat_columns g (tells i) (area i) (bounds i) f) ms);
+      text = t ∙ (λ i. table_text true 2 (flat_columns g (tells i) (area i) (bounds i) f) ms);
     }
 
 -- the areas of the program's rows are those of the measures that they tell

@@ -8,11 +8,11 @@ use Rattle.report_terms.specs.Holds.{Holds}
 use Rattle.report_lines.specs.Reports.{Space}
 use Rattle.report_lines.specs.Tells.{StandsIn}
 use Rattle.report_lines.proofs.Telling.{holding_tells}
-use Rattle.report_making.specs.Made.{IsSpace}
-use Rattle.report_making.specs.Runs.{Ran}
-use Rattle.report_making.specs.Complete.{FileIs, WritesOf}
-use Rattle.report_making.specs.declared.outcome.Outcome.TheVariants.{Done}
-use Rattle.report_making.proofs.Written.{writes_of}
+use Rattle.report_lines.specs.Made.{IsSpace}
+use Rattle.report_lines.specs.Runs.{Ran}
+use Rattle.report_lines.specs.Complete.{FileIs, WritesOf}
+use Rattle.report_lines.specs.declared.outcome.Outcome.TheVariants.{Done}
+use Rattle.report_lines.proofs.Written.{writes_of}
 use Rattle.measure_report.specs.TableTexts.{IsTableText}
 use Rattle.measure_report.specs.Tabled.{HasTable}
 use Rattle.measure_report.specs.Whole.{WritesMeasures, RanWhole, WriteAlike}
@@ -20,7 +20,8 @@ use Rattle.measure_report.specs.declared.groups.Groups.{Groups}
 use Rattle.measure_report.proofs.Telling.{spelled_so}
 use Rattle.measure_report.proofs.OneTable.{flat_once, solid_once}
 
-module _ (g : Groups) (s : Space) (X : Subject) (name text : List ℕ) (old new : DeskState) (known : IsSpace s) (stands : StandsIn s X.picture) (holds : Holds X text) where
+module _ (g : Groups) (s : Space) (X : Subject) (name text : List ℕ) (old new : DeskState) (known : IsSpace s) (stands : StandsIn s X.picture)
+    (holds : Holds X text) where
   pub measures_written : FileIs old.files name (λ bytes. bytes ≡ text) → Ran (IsTableText g) name old new Done → WritesMeasures g s X text old new
   measures_written file ran =
       let t = holding_tells s X text holds stands in

@@ -3,7 +3,7 @@
 use Rattle.std.specs.Prelude.{ℕ, Bool, if◌then◌else◌, ◌==◌, List, ◌++◌, codes, slice_index_or}
 use Rattle.measure_terms.specs.Texts as Texts
 use Rattle.measure_terms.specs.Texts.{Columns, whole}
-use Rattle.border_terms.specs.Objects.{Bounds, thousandths}
+use Rattle.measure_terms.specs.Objects.{Bounds, thousandths}
 use Rattle.bordering.specs.OneMore.{no_bounds}
 
 -- a report with this number shows its lines to be least, so it tells lengths along them; of any other the lines may be others

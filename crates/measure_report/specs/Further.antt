@@ -3,6 +3,8 @@
 use Rattle.std.specs.Prelude.{◌≡◌, ℕ, List, IsTrue, map}
 use Rattle.shape_terms.specs.Pictures.{Picture}
 use Rattle.measure_terms.specs.Feret.{Feret, AreFerets}
+use Rattle.measure_terms.specs.Spacing.{spaced_distance}
+use Rattle.measuring.specs.Spaced.{told_or_unit}
 use Rattle.measure_terms.specs.Minkowski.{Minkowski, AreMinkowski, MinkowskiComponents}
 use Rattle.measure_terms.specs.HullSizes.{HullSize, AreHulls, HullsComponents}
 use Rattle.measure_terms.specs.Moments.{Moments, AreMoments, MomentsComponents}
@@ -32,7 +34,7 @@ AreThick object squares labels n ss = AreThicknessSums object.sides labels n (gr
 
 -- those of the objects 1 to n of a picture with d axes, each the points with its label, as far as a table with these groups spells them
 pub record AreFurther (g : Groups) (d : ℕ) (object : Picture) (squares labels : List ℕ) (n : ℕ) (f : Further) : Type 0 where
-  pub ferets : d ≡ 2 → AreFerets object.sides labels n f.ferets
+  pub ferets : AreFerets (spaced_distance (told_or_unit g.spacing)) object.sides labels n f.ferets
   pub minkowski : AreMinkowski object.sides labels n f.minkowski
   pub hulls : d ≡ 2 → AreHulls object.sides labels n f.hulls
   pub moments : IsTrue g.moments → AreMoments object.sides labels n f.moments
@@ -49,7 +51,7 @@ pub record ThickComponents (X : Picture) (labels : List ℕ) (n : ℕ) (ss : Lis
 
 -- those of the first n components of a picture with d axes, by their labels
 pub record FurtherComponents (g : Groups) (d : ℕ) (X : Picture) (labels : List ℕ) (n : ℕ) (f : Further) : Type 0 where
-  pub ferets : d ≡ 2 → FeretsComponents X labels n f.ferets
+  pub ferets : FeretsComponents (spaced_distance (told_or_unit g.spacing)) X labels n f.ferets
   pub minkowski : MinkowskiComponents X labels n f.minkowski
   pub hulls : d ≡ 2 → HullsComponents X labels n f.hulls
   pub moments : IsTrue g.moments → MomentsComponents X labels n f.moments

@@ -1,10 +1,10 @@
 -- What the columns that the program keeps tell: those of the definitions.
 -- A further kind is one more line of each.
-use Rattle.std.specs.Prelude.{List, [], map}
-use Rattle.extents.specs.Told.{ferets_told}
-use Rattle.extents.specs.Sizes.{hulls_told}
-use Rattle.octants.specs.Told as Octants
-use Rattle.moments.specs.Told as Moments
+use Rattle.std.specs.Prelude.{[], map}
+use Rattle.measuring.specs.FeretsTold.{ferets_told}
+use Rattle.measuring.specs.Sizes.{hulls_told}
+use Rattle.measuring.specs.MinkowskiTold as Octants
+use Rattle.measuring.specs.MomentsTold as Moments
 use Rattle.measure_report.specs.RatioColumns as Ratios
 use Rattle.measure_report.specs.Further.{Further}
 use Rattle.measure_report.specs.declared.ratios.Sizes.{Sizes}
@@ -18,7 +18,7 @@ sizes_told s = record { area = s.area; double_area = s.double_area; border = s.b
 -- those of flat objects
 abbrev pub flat_told : FlatColumns → Further
 flat_told c = record {
-  ferets = ferets_told c.ferets.ferets.items;
+  ferets = ferets_told 2 c.ferets.ferets.items;
   minkowski = Octants.all_told c.numbers.numbers.items;
   hulls = hulls_told c.hulls.hulls.items;
   moments = Moments.all_told c.moments.moments.items;
@@ -29,7 +29,7 @@ flat_told c = record {
 -- those of objects of space
 abbrev pub solid_told : SolidColumns → Further
 solid_told c = record {
-  ferets = [];
+  ferets = ferets_told 3 c.ferets.ferets.items;
   minkowski = Octants.all_told c.numbers.numbers.items;
   hulls = [];
   moments = Moments.all_told c.moments.moments.items;

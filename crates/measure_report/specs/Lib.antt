@@ -10,6 +10,7 @@ pub mod Words
 pub mod Wholes
 pub mod Further
 pub mod FurtherTold
+pub mod KeptSurfaces
 pub mod FurtherColumns
 pub mod TableTexts
 pub mod Holding

@@ -5,7 +5,7 @@ use Rattle.measure_terms.specs.HullSizes.{HullSize}
 use Rattle.measure_terms.specs.Rounding.{mean}
 use Rattle.measure_terms.specs.Texts as Texts
 use Rattle.measure_terms.specs.Texts.{Columns}
-use Rattle.border_terms.specs.Objects.{Bounds, thousandths}
+use Rattle.measure_terms.specs.Objects.{Bounds, thousandths}
 use Rattle.bordering.specs.OneMore.{no_bounds}
 use Rattle.measure_report.specs.HullColumns.{no_hull}
 
@@ -39,6 +39,10 @@ sizes_at areas hulls bounds i = record {
   border = thousandths (slice_index_or bounds i no_bounds).border;
 }
 
+-- the names of the columns
+abbrev pub ratio_names : List ℕ
+ratio_names = codes ",solidity,circularity"
+
 -- the columns of objects with these areas, hulls and borders
 abbrev pub ratio_columns : (told : Bool) → List ℕ → List HullSize → List Bounds → Columns
-ratio_columns told areas hulls bounds = record { names = codes ",solidity,circularity"; cells = λ i. ratio_cells told (sizes_at areas hulls bounds i) }
+ratio_columns told areas hulls bounds = record { names = ratio_names; cells = λ i. ratio_cells told (sizes_at areas hulls bounds i) }

@@ -16,7 +16,8 @@ pub record Opens (number : ℕ) (name : List ℕ) (lines : List Line) : Type 0 w
   pub number_is : heading.number ≡ number
   pub rule_is : heading.rule ≡ name
 
--- the text is a report with this number and of the rule with this name, it holds of the picture, and the bytes are the table of its lines with these groups of columns
+-- the text is a report with this number and of the rule with this name, it holds of the picture, and the bytes are the table of its lines with these groups of
+-- columns
 pub record HasTable (g : Groups) (s : Space) (X : Subject) (number : ℕ) (name text bytes : List ℕ) : Type 0 where
   pub holds : Holds X text
   pub lines : List Line

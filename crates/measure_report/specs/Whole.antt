@@ -6,9 +6,9 @@ use Rattle.report_terms.specs.Subjects.{Subject}
 use Rattle.report_terms.specs.Lines.{Line}
 use Rattle.report_terms.specs.Holds.{Holds}
 use Rattle.report_lines.specs.Reports.{Space, IsReport}
-use Rattle.report_making.specs.Runs.{Ran}
-use Rattle.report_making.specs.Complete.{FileIs}
-use Rattle.report_making.specs.declared.outcome.Outcome.TheVariants.{Done}
+use Rattle.report_lines.specs.Runs.{Ran}
+use Rattle.report_lines.specs.Complete.{FileIs}
+use Rattle.report_lines.specs.declared.outcome.Outcome.TheVariants.{Done}
 use Rattle.measure_report.specs.TableTexts.{IsTableText}
 use Rattle.measure_report.specs.Holding.{SpellsMeasures}
 use Rattle.measure_report.specs.Tabled.{Opens}

@@ -2,18 +2,19 @@
 //! What each kind puts is told in its own module; a further kind is one more field and one more piece of both methods.
 ghost use Rattle.std.specs.Prelude.{◌≡◌, ◌++◌, OnOk, slice_index};
 ghost use Rattle.bordering.specs.Told.{all_bounds};
-ghost use Rattle.extents.specs.Sizes.{hulls_told};
+ghost use Rattle.measuring.specs.Sizes.{hulls_told};
 ghost use Rattle.measure_report.specs.FurtherColumns.{where_asked};
+ghost use Rattle.measure_report.specs.ThicknessColumns.{thickness_columns};
 ghost use Rattle.measure_report.specs.FurtherTold.{sizes_told};
 ghost use Rattle.measure_report.specs.RatioColumns.{sizes_at, ratio_cells};
 
 use crate::borders::{BorderColumns, bounds_at};
-use crate::ferets::FeretColumns;
+use crate::ferets::{FlatFerets, SolidFerets};
 use crate::groups::Groups;
 use crate::hulls::{HullColumns, hull_at};
 use crate::minkowski::{FlatNumbers, SolidNumbers};
 use crate::moment_columns::{FlatMoments, SolidMoments};
-use crate::ratios::{Sizes, put_ratios};
+use crate::ratios::{Sizes, put_ratio_names, put_ratios};
 use crate::thickness::ThicknessColumns;
 use bordering::thousandths;
 use measuring::{Columns, Csv};
@@ -26,7 +27,7 @@ pub(crate) struct FlatColumns {
     /// How many pixels each object has.
     pub(crate) areas: Vec<u32>,
     pub(crate) borders: BorderColumns,
-    pub(crate) ferets: FeretColumns,
+    pub(crate) ferets: FlatFerets,
     pub(crate) numbers: FlatNumbers,
     pub(crate) hulls: HullColumns,
     pub(crate) moments: FlatMoments,
@@ -38,6 +39,7 @@ pub(crate) struct FlatColumns {
 pub(crate) struct SolidColumns {
     pub(crate) groups: Groups,
     pub(crate) numbers: SolidNumbers,
+    pub(crate) ferets: SolidFerets,
     pub(crate) moments: SolidMoments,
     pub(crate) thickness: ThicknessColumns,
 }
@@ -68,8 +70,41 @@ fn put_cells_where<C: Columns>(
     Ok(())
 }
 
+// Puts the names of the columns of thickness where they are asked for.
+fn put_thickness_names(
+    asked: bool,
+    told: bool,
+    columns: &ThicknessColumns,
+    csv: &mut Csv,
+) -> Result<(), NoMemory>
+    ensures { OnOk result (csv.new ≡ csv.old
+        ++ (where_asked asked (thickness_columns told columns.now.sums.items)).names) }
+{
+    if asked {
+        columns.put_names(told, csv)?;
+    }
+    Ok(())
+}
+
+// Puts the cells of the columns of thickness where they are asked for.
+fn put_thickness_cells(
+    asked: bool,
+    told: bool,
+    columns: &ThicknessColumns,
+    i: usize,
+    csv: &mut Csv,
+) -> Result<(), NoMemory>
+    ensures { OnOk result (csv.new ≡ csv.old
+        ++ (where_asked asked (thickness_columns told columns.now.sums.items)).cells i) }
+{
+    if asked {
+        columns.put_cells(told, i, csv)?;
+    }
+    Ok(())
+}
+
 // The area of the object in a row with a place, and 0 where there is no such object.
-fn area_at(areas: &[u32], i: usize) -> u32
+pub(crate) fn area_at(areas: &[u32], i: usize) -> u32
     ensures { result ≡ slice_index areas.now i }
 {
     if i < areas.len() { areas[i] } else { 0 }
@@ -103,9 +138,9 @@ impl Columns for FlatColumns {
         self.ferets.put_names(csv)?;
         self.numbers.put_names(csv)?;
         self.hulls.put_names(csv)?;
-        csv.put(b",solidity,circularity")?;
+        put_ratio_names(csv)?;
         put_names_where(self.groups.moments, &self.moments, csv)?;
-        put_names_where(self.groups.thickness, &self.thickness, csv)?;
+        put_thickness_names(self.groups.thickness, true, &self.thickness, csv)?;
         Ok(())
     }
 
@@ -116,28 +151,36 @@ impl Columns for FlatColumns {
         self.hulls.put_cells(i, csv)?;
         put_ratios(self.borders.told, &self.sizes(i), csv)?;
         put_cells_where(self.groups.moments, &self.moments, i, csv)?;
-        put_cells_where(self.groups.thickness, &self.thickness, i, csv)?;
+        put_thickness_cells(self.groups.thickness, true, &self.thickness, i, csv)?;
         Ok(())
     }
 }
 
 impl Columns for SolidColumns {
+    ghost use Rattle.std.specs.Prelude.{true};
+    ghost use Rattle.measuring.specs.FeretsTold.{ferets_told};
     ghost use Rattle.measure_report.specs.FurtherTold.{solid_told};
-    ghost use Rattle.measure_report.specs.FurtherColumns.{solid_columns};
+    ghost use Rattle.measure_report.specs.FeretColumns.{feret_columns};
+    ghost use Rattle.measure_report.specs.KeptSurfaces.{kept_columns};
+    ghost use Rattle.measure_report.specs.FurtherColumns.{beside, group_columns};
 
-    ghost columns = { λ c. solid_columns c.groups (solid_told c) };
+    ghost columns = { λ c. beside (kept_columns c.numbers) (beside (feret_columns true (ferets_told 3 c.ferets.ferets.items)) (group_columns c.groups 3 (solid_told c))) };
 
     fn put_names(&self, csv: &mut Csv) -> Result<(), NoMemory> {
+        let told = self.groups.tells_distances();
         self.numbers.put_names(csv)?;
+        self.ferets.put_names(csv)?;
         put_names_where(self.groups.moments, &self.moments, csv)?;
-        put_names_where(self.groups.thickness, &self.thickness, csv)?;
+        put_thickness_names(self.groups.thickness, told, &self.thickness, csv)?;
         Ok(())
     }
 
     fn put_cells(&self, i: usize, csv: &mut Csv) -> Result<(), NoMemory> {
+        let told = self.groups.tells_distances();
         self.numbers.put_cells(i, csv)?;
+        self.ferets.put_cells(i, csv)?;
         put_cells_where(self.groups.moments, &self.moments, i, csv)?;
-        put_cells_where(self.groups.thickness, &self.thickness, i, csv)?;
+        put_thickness_cells(self.groups.thickness, told, &self.thickness, i, csv)?;
         Ok(())
     }
 }

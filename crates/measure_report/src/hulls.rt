@@ -2,11 +2,10 @@
 //! A further column is one more piece in both methods, in the same place as in `specs/HullColumns.antt`.
 ghost use Rattle.std.specs.Prelude.{◌≡◌, ◌++◌, OnOk, slice_index_or};
 ghost use Rattle.measure_terms.specs.HullSizes.{convex_area};
-ghost use Rattle.extents.specs.Sizes.{hull_told, hulls_told};
+ghost use Rattle.measuring.specs.Sizes.{hull_told, hulls_told};
 ghost use Rattle.measure_report.specs.HullColumns.{convex_perimeter, hull_cells, no_hull};
 
-use extents::HullSize;
-use measuring::{Columns, Csv};
+use measuring::{Columns, Csv, HullSize};
 use shape_space::NoMemory;
 
 /// The columns of the hull of each object.
@@ -61,7 +60,7 @@ fn put_hull(z: &HullSize, csv: &mut Csv) -> Result<(), NoMemory>
 }
 
 impl Columns for HullColumns {
-    ghost use Rattle.extents.specs.Sizes.{hulls_told};
+    ghost use Rattle.measuring.specs.Sizes.{hulls_told};
     ghost use Rattle.measure_report.specs.HullColumns.{hull_columns};
 
     ghost columns = { λ c. hull_columns (hulls_told c.hulls.items) };

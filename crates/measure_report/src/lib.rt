@@ -1,5 +1,5 @@
 //! The table of the objects that a report speaks of: what `measuring` makes of what it says of the points of its box, `bordering` of
-//! its contours, and `extents`, `octants`, `moments` and `diameters` of the objects' points; and the numbers of the whole object.
+//! its contours, and `measuring` again of the labels of its objects; and the numbers of the whole object.
 //! No claim of the report is judged.
 #![tactic(auto)]
 
@@ -23,7 +23,7 @@ mod wholes;
 pub use groups::Groups;
 pub use law::{holding_measures, tables_are_one, tables_of_what_holds};
 pub use outlined::Outlined;
-pub use report_making::Outcome;
+pub use report_lines::Outcome;
 pub use tables::Tables;
 pub use top::{USAGE, run};
 pub use wanted::Wanted;

@@ -1,11 +1,10 @@
 //! The columns of second moments: sums of coordinates and of their products, and in the plane the ellipse that has them.
 //! A further column is one more piece of both spaces, in the same place as in `specs/MomentColumns.antt`.
 ghost use Rattle.std.specs.Prelude.{◌≡◌, ◌≤◌, ◌++◌, IfOk, OnOk, List, length, map, slice_index_or};
-ghost use Rattle.moments.specs.Told.{moments_told, all_told, ellipse_told};
+ghost use Rattle.measuring.specs.MomentsTold.{moments_told, all_told, ellipse_told};
 ghost use Rattle.measure_report.specs.MomentColumns.{plane_sums, plane_products, space_products, ellipse_cells, flat_cells, solid_cells, no_moments, no_ellipse, IsEllipseOf, AreEllipses};
 
-use measuring::{Columns, Csv};
-use moments::{Ellipse, Moments};
+use measuring::{Columns, Csv, Ellipse, Moments};
 use shape_space::NoMemory;
 use std::alloc::Global;
 
@@ -134,7 +133,7 @@ fn put_solid(m: &Moments, csv: &mut Csv) -> Result<(), NoMemory>
 
 impl Columns for FlatMoments {
     ghost use Rattle.std.specs.Prelude.{map};
-    ghost use Rattle.moments.specs.Told.{all_told, ellipse_told};
+    ghost use Rattle.measuring.specs.MomentsTold.{all_told, ellipse_told};
     ghost use Rattle.measure_report.specs.MomentColumns.{flat_moment_columns};
 
     ghost columns = { λ c. flat_moment_columns (all_told c.moments.items) (map ellipse_told c.ellipses.items) };
@@ -150,7 +149,7 @@ impl Columns for FlatMoments {
 }
 
 impl Columns for SolidMoments {
-    ghost use Rattle.moments.specs.Told.{all_told};
+    ghost use Rattle.measuring.specs.MomentsTold.{all_told};
     ghost use Rattle.measure_report.specs.MomentColumns.{solid_moment_columns};
 
     ghost columns = { λ c. solid_moment_columns (all_told c.moments.items) };

@@ -1,7 +1,7 @@
 //! The cells of ratios that have no unit: solidity and circularity.
-//! Another ratio is one more piece of `put_ratios`, in the same place as in `specs/RatioColumns.antt`.
+//! Another ratio is one more name, and one more piece of `put_ratios`, in the same places as in `specs/RatioColumns.antt`.
 ghost use Rattle.std.specs.Prelude.{◌≡◌, ◌≤◌, ◌^◌, ◌++◌, OnOk};
-ghost use Rattle.measure_report.specs.RatioColumns.{solidity, circularity, ratio_cells};
+ghost use Rattle.measure_report.specs.RatioColumns.{solidity, circularity, ratio_cells, ratio_names};
 ghost use Rattle.measure_report.specs.FurtherTold.{sizes_told};
 
 use measuring::Csv;
@@ -44,6 +44,13 @@ fn circularity(s: &Sizes) -> u128
     }
     let square = s.border * s.border;
     (2 * (FOUR_PI * s.area as u128) + 1000 * square) / (2000 * square)
+}
+
+/// Puts the names of the columns.
+pub(crate) fn put_ratio_names(csv: &mut Csv) -> Result<(), NoMemory>
+    ensures { OnOk result (csv.new ≡ csv.old ++ ratio_names) }
+{
+    csv.put(b",solidity,circularity")
 }
 
 /// Puts the cells of an object's ratios; that of circularity is empty where no length of a border is told.

@@ -4,7 +4,7 @@ ghost use Rattle.std.specs.Prelude.{◌≡◌, List, IfOk};
 ghost use Rattle.report_terms.specs.Lines.{Line};
 ghost use Rattle.report_terms.specs.Sections.{number_of};
 ghost use Rattle.report_lines.specs.Said.{said};
-ghost use Rattle.border_terms.specs.Borders.{borders as borders_of};
+ghost use Rattle.measure_terms.specs.Borders.{borders as borders_of};
 ghost use Rattle.measuring.specs.TellsTable.{TellsTable};
 ghost use Rattle.bordering.specs.Told.{all_borders};
 ghost use Rattle.bordering.specs.Kept.{HasBorders};
@@ -17,8 +17,7 @@ use crate::groups::Groups;
 use crate::outlined::Outlined;
 use bordering::{Border, Contours};
 use measuring::{Table, measure, table_text};
-use report_lines::{Heading, Seen};
-use report_making::Making;
+use report_lines::{Heading, Making, Seen};
 use shape_adj::Pairing;
 use shape_space::{NoMemory, P2, P3};
 use std::alloc::Global;
@@ -53,7 +52,7 @@ fn bordered_table(
         → IfOk result (λ csv. IsTableText groups 2 lines csv.items) }
 {
     let more = flat_columns(alloc, seen, table, groups, told, borders)?;
-    table_text(alloc, seen.sides(), table.rows.as_slice(), &more)
+    table_text(alloc, true, seen.sides(), table.rows.as_slice(), &more)
 }
 
 // Whether a report with a number tells lengths of borders: its lines are shown to be least.
@@ -99,7 +98,8 @@ fn solid_table(alloc: Global, seen: &Seen<P3>, groups: Groups) -> Result<Vec<u8>
 {
     let table = table_of(alloc, seen)?;
     let more = solid_columns(alloc, seen, &table, groups)?;
-    table_text(alloc, seen.sides(), table.rows.as_slice(), &more)
+    let told = groups.tells_distances();
+    table_text(alloc, told, seen.sides(), table.rows.as_slice(), &more)
 }
 
 impl Making for Tables {

@@ -1,10 +1,9 @@
 //! The columns of local thickness: the mean, the deviation and the greatest of the diameters at the points of an object.
 //! A further column is one more piece in both methods, in the same place as in `specs/ThicknessColumns.antt`.
 ghost use Rattle.std.specs.Prelude.{◌≡◌, ◌++◌, OnOk, slice_index_or};
-ghost use Rattle.measure_report.specs.ThicknessColumns.{thickness_cells, no_thickness};
+ghost use Rattle.measure_report.specs.ThicknessColumns.{thickness_cells, thickness_columns, no_thickness};
 
-use diameters::ThicknessSum;
-use measuring::{Columns, Csv};
+use measuring::{Csv, ThicknessSum};
 use shape_space::NoMemory;
 
 /// The columns of the thickness of each object.
@@ -35,16 +34,24 @@ fn put_sum_at(all: &[ThicknessSum], i: usize, csv: &mut Csv) -> Result<(), NoMem
     }
 }
 
-impl Columns for ThicknessColumns {
-    ghost use Rattle.measure_report.specs.ThicknessColumns.{thickness_columns};
-
-    ghost columns = { λ c. thickness_columns c.sums.items };
-
-    fn put_names(&self, csv: &mut Csv) -> Result<(), NoMemory> {
+impl ThicknessColumns {
+    // Puts the names.
+    pub(crate) fn put_names(&self, told: bool, csv: &mut Csv) -> Result<(), NoMemory>
+        ensures { OnOk result (csv.new
+            ≡ csv.old ++ (thickness_columns told self.now.sums.items).names) }
+    {
         csv.put(b",thickness,thickness_sd,thickness_max")
     }
 
-    fn put_cells(&self, i: usize, csv: &mut Csv) -> Result<(), NoMemory> {
-        put_sum_at(self.sums.as_slice(), i, csv)
+    // Puts the cells in the row with a place: empty ones where no distance is told.
+    pub(crate) fn put_cells(&self, told: bool, i: usize, csv: &mut Csv) -> Result<(), NoMemory>
+        ensures { OnOk result (csv.new
+            ≡ csv.old ++ (thickness_columns told self.now.sums.items).cells i) }
+    {
+        if told {
+            put_sum_at(self.sums.as_slice(), i, csv)
+        } else {
+            csv.put(b",,,")
+        }
     }
 }

@@ -1,10 +1,12 @@
 //! What is made of a report, and the words that ask for it.
 //! A further thing is a variant, its words and an arm in `top`.
-ghost use Rattle.std.specs.Prelude.{◌≡◌, ◌≢◌, [], ◌∷◌, ℕ, List, MatchOption};
+ghost use Rattle.std.specs.Prelude.{◌≡◌, ◌≢◌, ◌↔◌, ◌∷◌, ◌++◌, [], ℕ, List, Option, Some, IsTrue, false, MatchOption};
 ghost use Rattle.shape_desk.specs.Files.{texts};
-ghost use Rattle.measure_report.specs.Words.{wanted_words, asking};
+ghost use Rattle.measure_report.specs.Words.{word_where, spacing_words, wanted_words, asking, HasSides, IsAsked};
+ghost use Rattle.measuring.specs.declared.spacing.Spacing as Program;
 
 use crate::groups::Groups;
+use measuring::Spacing;
 
 /// What is made of a report.
 #[derive(Clone, Copy, Debug, PartialEq, Eq)]
@@ -15,68 +17,96 @@ pub enum Wanted {
     Whole,
 }
 
-impl Wanted {
-    // The table that every report has.
-    fn plain() -> Wanted
-        ensures { wanted_words result ≡ [] }
-    {
-        Wanted::Table(Groups {
-            moments: false,
-            thickness: false,
-        })
+// Whether a word is this text.
+fn is_text(word: &[u8], text: &[u8]) -> bool
+    ensures { IsTrue result ↔ (word.now ≡ text.now) }
+{
+    word == text
+}
+
+// Whether this text is the only one of some words.
+fn is_word(words: &[Vec<u8>], text: &[u8]) -> bool
+    ensures { IsTrue result ↔ (texts words.now ≡ text.now ∷ []) }
+{
+    match words {
+        [word] => is_text(word.as_slice(), text),
+        _ => false,
     }
 }
 
-// What this word alone asks for.
-fn asked_by(word: &[u8]) -> Option<Wanted>
-    ensures { MatchOption result ((w : Wanted) → wanted_words w ≢ word.now ∷ [])
-        (λ w. wanted_words w ≡ word.now ∷ []) }
+// Whether this text is the first of some words, and the words behind it where it is.
+fn take_word<'a>(words: &'a [Vec<u8>], text: &[u8]) -> (bool, &'a [Vec<u8>])
+    ensures words { texts words.now ≡ word_where result.0 text.now ++ texts result.1.now }
+    ensures first { result.0 ≡ false → (rest : List (List ℕ)) → texts words.now ≢ text.now ∷ rest }
 {
-    if word == b"moments".as_slice() {
-        return Some(Wanted::Table(Groups {
-            moments: true,
-            thickness: false,
-        }));
+    match words {
+        [word, rest @ ..] => {
+            if is_text(word.as_slice(), text) {
+                (true, rest)
+            } else {
+                (false, words)
+            }
+        }
+        [] => (false, words),
     }
-    if word == b"thickness".as_slice() {
-        return Some(Wanted::Table(Groups {
-            moments: false,
-            thickness: true,
-        }));
+}
+
+// The spacing that these four words ask for.
+fn spacing_by(word: &[u8], x: &[u8], y: &[u8], z: &[u8]) -> Option<Spacing>
+    ensures { MatchOption result ((o : Option Program.Spacing) → HasSides o
+        → word.now ∷ x.now ∷ y.now ∷ z.now ∷ [] ≢ spacing_words o)
+        (λ s. HasSides (Some s)
+        × (word.now ∷ x.now ∷ y.now ∷ z.now ∷ [] ≡ spacing_words (Some s))) }
+{
+    if is_text(word, b"spacing") {
+        Spacing::spelled(x, y, z)
+    } else {
+        None
     }
-    if word == b"whole".as_slice() {
+}
+
+// The spacing that words ask for, where they ask for one or for none.
+fn read_spacing(words: &[Vec<u8>]) -> Option<Option<Spacing>>
+    ensures { MatchOption result
+        ((o : Option Program.Spacing) → HasSides o → texts words.now ≢ spacing_words o)
+        (λ o. HasSides o × (texts words.now ≡ spacing_words o)) }
+{
+    match words {
+        [] => Some(None),
+        [word, x, y, z] => Some(Some(spacing_by(
+            word.as_slice(),
+            x.as_slice(),
+            y.as_slice(),
+            z.as_slice(),
+        )?)),
+        _ => None,
+    }
+}
+
+// What these words ask for, where no name of a file stands behind them.
+fn asked_by(words: &[Vec<u8>]) -> Option<Wanted>
+    ensures { MatchOption result ((w : Wanted) → IsAsked w → texts words.now ≢ wanted_words w)
+        (λ w. IsAsked w × (texts words.now ≡ wanted_words w)) }
+{
+    if is_word(words, b"whole") {
         return Some(Wanted::Whole);
     }
-    None
-}
-
-// What these two words ask for.
-fn asked_by_two(first: &[u8], second: &[u8]) -> Option<Wanted>
-    ensures { MatchOption result ((w : Wanted) → wanted_words w ≢ first.now ∷ second.now ∷ [])
-        (λ w. wanted_words w ≡ first.now ∷ second.now ∷ []) }
-{
-    if first == b"moments".as_slice() && second == b"thickness".as_slice() {
-        return Some(Wanted::Table(Groups {
-            moments: true,
-            thickness: true,
-        }));
-    }
-    None
+    let (moments, behind) = take_word(words, b"moments");
+    let (thickness, last) = take_word(behind, b"thickness");
+    let spacing = read_spacing(last)?;
+    Some(Wanted::Table(Groups {
+        moments,
+        thickness,
+        spacing,
+    }))
 }
 
 /// What the words before the last one ask for, and the last one: the name of a report's file.
 pub(crate) fn read_words<'a>(words: &'a [Vec<u8>]) -> Option<(Wanted, &'a [u8])>
     ensures { MatchOption result
-        ((w : Wanted) (name : List ℕ) → texts words.now ≢ asking w name)
-        (λ r. texts words.now ≡ asking r.0 r.1.now) }
+        ((w : Wanted) (name : List ℕ) → IsAsked w → texts words.now ≢ asking w name)
+        (λ r. IsAsked r.0 × (texts words.now ≡ asking r.0 r.1.now)) }
 {
-    match words {
-        [name] => Some((Wanted::plain(), name.as_slice())),
-        [word, name] => Some((asked_by(word.as_slice())?, name.as_slice())),
-        [first, second, name] => {
-            let wanted = asked_by_two(first.as_slice(), second.as_slice())?;
-            Some((wanted, name.as_slice()))
-        }
-        _ => None,
-    }
+    let (name, asked) = words.split_last()?;
+    Some((asked_by(asked)?, name.as_slice()))
 }

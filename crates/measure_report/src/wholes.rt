@@ -2,12 +2,10 @@
 //! its tunnels and its surface. What the numbers are, and how they are spelled, stands in `measure_terms`.
 ghost use Rattle.std.specs.Prelude.{◌≡◌, ◌++◌, IfOk, OnOk};
 ghost use Rattle.measure_terms.specs.Whole.{IsWholeText, tunnels, flat_whole, solid_numbers, solid_whole};
-ghost use Rattle.octants.specs.Told.{told};
+ghost use Rattle.measuring.specs.MinkowskiTold.{told};
 
-use measuring::Csv;
-use octants::{Minkowski, surface, whole_minkowski};
-use report_lines::{Heading, Seen};
-use report_making::Making;
+use measuring::{Csv, Minkowski, surface, whole_minkowski};
+use report_lines::{Heading, Making, Seen};
 use shape_adj::{Pairing, Parts, parts};
 use shape_grid::Grid;
 use shape_space::{NoMemory, P2, P3};

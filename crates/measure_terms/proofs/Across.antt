@@ -54,11 +54,13 @@ from_at_most : (a b : ℤ) (p q : Corner) → (a *ℤ (q.x -ℤ p.x) +ℤ b *ℤ
 from_at_most a b p q h = let e = step_along a b p q in omega (arith, ints, e, h)
 
 -- t is no less than the points before and behind it on a round that turns left there: no point left of both sides is more
-pub corner_greatest : (a b : ℤ) (u t q s : Corner) → pos 0 <ℤ turn u t q → pos 0 ≤ℤ turn u t s → pos 0 ≤ℤ turn t q s → along a b u ≤ℤ along a b t → along a b q ≤ℤ along a b t → along a b s ≤ℤ along a b t
+pub corner_greatest : (a b : ℤ) (u t q s : Corner) → pos 0 <ℤ turn u t q → pos 0 ≤ℤ turn u t s → pos 0 ≤ℤ turn t q s → along a b u ≤ℤ along a b t
+    → along a b q ≤ℤ along a b t → along a b s ≤ℤ along a b t
 corner_greatest a b u t q s d p r before behind =
     from_at_most a b t s
     (no_more a b (t.x -ℤ u.x) (t.y -ℤ u.y) (q.x -ℤ t.x) (q.y -ℤ t.y) (s.x -ℤ t.x) (s.y -ℤ t.y)
-    (subst (λ z. pos 0 <ℤ z) (sym (Turns.along u t q)) d) (subst (λ z. pos 0 ≤ℤ z) (sym (Turns.along u t s)) p) r (at_least a b u t before) (at_most a b t q behind))
+    (subst (λ z. pos 0 <ℤ z) (sym (Turns.along u t q)) d) (subst (λ z. pos 0 ≤ℤ z) (sym (Turns.along u t s)) p) r (at_least a b u t before)
+    (at_most a b t q behind))
 
 -- ---- a place and the one before it
 
@@ -80,7 +82,8 @@ previous n k l =
     goes m i j e f = grind (arith, nat_tests)
 
 -- ---- a vertex that no vertex exceeds along a direction no point of the set exceeds
-pub greatest : (S : Corner → Type 0) (h : List Corner) (a b : ℤ) (k : ℕ) → IsHull S h → 3 ≤ length h → k < length h → ((j : ℕ) → j < length h → along a b (vertex h j) ≤ℤ along a b (vertex h k))
+pub greatest : (S : Corner → Type 0) (h : List Corner) (a b : ℤ) (k : ℕ) → IsHull S h → 3 ≤ length h → k < length h
+    → ((j : ℕ) → j < length h → along a b (vertex h j) ≤ℤ along a b (vertex h k))
     → (s : Corner) → S s → along a b s ≤ℤ along a b (vertex h k)
 greatest S h a b k is many l most s here =
     let n = length h in
@@ -95,7 +98,8 @@ greatest S h a b k is many l most s here =
 
 -- ---- across a side
 
-pub turn_along : (ax ay bx by px py : ℤ) → (neg_ℤ (by -ℤ ay) *ℤ px +ℤ (bx -ℤ ax) *ℤ py) -ℤ (neg_ℤ (by -ℤ ay) *ℤ ax +ℤ (bx -ℤ ax) *ℤ ay) ≡ det (bx -ℤ ax) (by -ℤ ay) (px -ℤ ax) (py -ℤ ay)
+pub turn_along : (ax ay bx by px py : ℤ) → (neg_ℤ (by -ℤ ay) *ℤ px +ℤ (bx -ℤ ax) *ℤ py) -ℤ (neg_ℤ (by -ℤ ay) *ℤ ax +ℤ (bx -ℤ ax) *ℤ ay) ≡ det (bx -ℤ ax)
+    (by -ℤ ay) (px -ℤ ax) (py -ℤ ay)
 turn_along ax ay bx by px py = plain (bx -ℤ ax) (by -ℤ ay) px py ax ay
   where
     plain : (x y p q r s : ℤ) → (neg_ℤ y *ℤ p +ℤ x *ℤ q) -ℤ (neg_ℤ y *ℤ r +ℤ x *ℤ s) ≡ det x y (p -ℤ r) (q -ℤ s)
@@ -112,10 +116,12 @@ side_width S h w is many o =
     let value = λ (p : Corner). turn_along u.x u.y v.x v.y p.x p.y in
     let top = value t in
     let across = o.across in
-    let more = λ (j : ℕ) (l : j < length h). (compare (along a b (vertex h j)) (along a b t) (along a b u) (turn u v (vertex h j)) (turn u v t) (value (vertex h j)) top (o.reach.most j l)) in
+    let more = λ (j : ℕ) (l : j < length h).
+    (compare (along a b (vertex h j)) (along a b t) (along a b u) (turn u v (vertex h j)) (turn u v t) (value (vertex h j)) top (o.reach.most j l)) in
     let most = greatest S h a b o.far is many o.reach.within more in
     record {
-      most = λ p q s r. ranged (along a b p) (along a b q) (along a b t) (along a b u) (turn u v p) w.across (value p) (is.left w.side p o.side s) (most q r) (top ∙ sym across);
+      most = λ p q s r. ranged (along a b p) (along a b q) (along a b t) (along a b u) (turn u v p) w.across (value p) (is.left w.side p o.side s) (most q r)
+          (top ∙ sym across);
       from = u;
       to = t;
       from_in = is.of w.side o.side;

@@ -52,7 +52,8 @@ module _ (S : Corner → Type 0) (h : List Corner) (is : IsHull S h) where
 
   -- one triangle more
   step : (i : ℕ) → i < length h → pos 0 ≤ℤ (sum_below side i -ℤ side_area o (vertex h i)) → pos 0 ≤ℤ (sum_below side (suc i) -ℤ side_area o (end h i))
-  step i l k = more (sum_below side i) (side_area o (vertex h i)) (side_area o (end h i)) (side i) (turn (vertex h i) (end h i) o) k (triangle o (vertex h i) (end h i)) (is.left i o l (is.of 0 some))
+  step i l k = more (sum_below side i) (side_area o (vertex h i)) (side_area o (end h i)) (side i) (turn (vertex h i) (end h i) o) k
+      (triangle o (vertex h i) (end h i)) (is.left i o l (is.of 0 some))
 
   -- the triangles before a place
   up_to : (i : ℕ) → i < length h → pos 0 ≤ℤ (sum_below side i -ℤ side_area o (vertex h i))

@@ -39,7 +39,8 @@ apart_cons x xs n h zero (suc j) d a l = λ e. n (let m : j < length xs = omega 
 apart_cons x xs n h (suc i) zero d a l = absurd (omega (arith, a))
 apart_cons x xs n h (suc i) (suc j) d a l = h i j d (omega (arith, a)) (omega (arith, l))
 
-added : (m a b c d : ℕ) → m ≤ 3 → (pos (a + c) -ℤ pos (b + d)) +ℤ sign m ≡ pos ((cond (m == 0) 1 0 + a) + (cond (m == 2) 1 0 + c)) -ℤ pos ((cond (m == 1) 1 0 + b) + (cond (m == 3) 1 0 + d))
+added : (m a b c d : ℕ) → m ≤ 3 → (pos (a + c) -ℤ pos (b + d)) +ℤ sign m ≡ pos ((cond (m == 0) 1 0 + a) + (cond (m == 2) 1 0 + c)) -ℤ pos
+    ((cond (m == 1) 1 0 + b) + (cond (m == 3) 1 0 + d))
 added zero a b c d l = omega (arith, ints)
 added (suc zero) a b c d l = omega (arith, ints)
 added (suc (suc zero)) a b c d l = omega (arith, ints)
@@ -47,7 +48,8 @@ added (suc (suc (suc zero))) a b c d l = omega (arith, ints)
 added (suc (suc (suc (suc m)))) a b c d l = absurd (omega (arith, l))
 
 -- a cell that is not in the set
-pub one_cell_more : (T : Point → Type 0) (c : Point) (n : ℤ) → (T c → ⊥) → dimension c ≤ 3 → IsAlternatingSum T n → IsAlternatingSum (λ b. T b ⊎ (c ≡ b)) (n +ℤ sign (dimension c))
+pub one_cell_more : (T : Point → Type 0) (c : Point) (n : ℤ) → (T c → ⊥) → dimension c ≤ 3 → IsAlternatingSum T n
+    → IsAlternatingSum (λ b. T b ⊎ (c ≡ b)) (n +ℤ sign (dimension c))
 one_cell_more T c n new small h = record {
   cells = c ∷ h.cells;
   only = All-cons (λ b. T b ⊎ (c ≡ b)) c h.cells (inr refl) (All-weaker T (λ b. T b ⊎ (c ≡ b)) (λ b t. inl t) h.cells h.only);

@@ -48,7 +48,8 @@ pub front_apart : {A : Type 0} (x : A) (xs : List A) → AllPairs (λ b c. b ≢
 front_apart x xs a y c e = let l = c.1 in a 0 (suc c.0) y (omega arith) (omega (arith, l)) (e ∙ sym c.2)
 
 -- a list without repetition whose elements are all in another has no more of a kind
-pub no_more_of : {A : Type 0} (f : A → Bool) (xs ys : List A) → AllPairs (λ b c. b ≢ c) xs → ((x : A) → Contains xs x → Contains ys x) → count_by f xs ≤ count_by f ys
+pub no_more_of : {A : Type 0} (f : A → Bool) (xs ys : List A) → AllPairs (λ b c. b ≢ c) xs → ((x : A) → Contains xs x → Contains ys x)
+    → count_by f xs ≤ count_by f ys
 no_more_of f [] ys a h = omega arith
 no_more_of f (x ∷ xs) ys a h =
     let t = take_out f x ys (h x (head_in x xs)) in

@@ -22,8 +22,9 @@ filtered p (y ∷ xs) x c = elim (cases_Bool (p y)) [
 ]
 
 -- the same set has the same diameter
-pub same_feret : (sides : List ℕ) (S T : Point → Type 0) (f : Feret) → ((p : Point) → S p → T p) → ((p : Point) → T p → S p) → IsFeret sides S f → IsFeret sides T f
-same_feret sides S T f to back h = record {
+pub same_feret : (square : Point → Point → ℕ) (sides : List ℕ) (S T : Point → Type 0) (f : Feret) → ((p : Point) → S p → T p) → ((p : Point) → T p → S p)
+    → IsFeret square sides S f → IsFeret square sides T f
+same_feret square sides S T f to back h = record {
   from_in = to f.from h.from_in;
   to_in = to f.to h.to_in;
   distance = h.distance;

@@ -26,7 +26,8 @@ greatest_bound f (q ∷ ps) p c = elim (in_cases q ps p c) [
   | inr d ↦ (let r = greatest_bound f ps p d in omega (arith, r))
 ]
 
-reached_more : (f : Point → ℕ) (p q : Point) (ps : List Point) → (r : Point) × Contains (q ∷ ps) r × (f r ≡ greatest (map f (q ∷ ps))) → (r : Point) × Contains (p ∷ q ∷ ps) r × (f r ≡ greatest (map f (p ∷ q ∷ ps)))
+reached_more : (f : Point → ℕ) (p q : Point) (ps : List Point) → (r : Point) × Contains (q ∷ ps) r × (f r ≡ greatest (map f (q ∷ ps)))
+    → (r : Point) × Contains (p ∷ q ∷ ps) r × (f r ≡ greatest (map f (p ∷ q ∷ ps)))
 reached_more f p q ps r =
     let e = r.2 in
     let split : (f p ≤ greatest (map f (q ∷ ps))) ⊎ (greatest (map f (q ∷ ps)) < f p) = grind arith in
@@ -83,10 +84,12 @@ map_twice : {A B C : Type 0} (g : B → C) (h : A → B) (xs : List A) → map g
 map_twice g h [] = refl
 map_twice g h (x ∷ xs) = λ i. g (h x) ∷ map_twice g h xs i
 
-span_is : (object : Picture) (squares : List ℕ) (left : Picture) (labels : List ℕ) (k : ℕ) (p : Point) (ps : List Point) → IsSpanOf k (p ∷ ps) (span k (map (fact object squares left labels) (p ∷ ps)))
+span_is : (object : Picture) (squares : List ℕ) (left : Picture) (labels : List ℕ) (k : ℕ) (p : Point) (ps : List Point)
+    → IsSpanOf k (p ∷ ps) (span k (map (fact object squares left labels) (p ∷ ps)))
 span_is object squares left labels k p ps =
     let f = λ (q : Point). nat_abs (coordinate q k) in
-    let e : coordinates k (map (fact object squares left labels) (p ∷ ps)) ≡ map f (p ∷ ps) = map_twice (λ g. nat_abs (coordinate g.point k)) (fact object squares left labels) (p ∷ ps) in
+    let e : coordinates k (map (fact object squares left labels) (p ∷ ps)) ≡ map f (p ∷ ps) =
+    map_twice (λ g. nat_abs (coordinate g.point k)) (fact object squares left labels) (p ∷ ps) in
     record {
       least = subst (λ (xs : List ℕ). IsLeastOf f (p ∷ ps) (least xs)) (sym e) (is_least f p ps);
       greatest = subst (λ (xs : List ℕ). IsGreatestOf f (p ∷ ps) (greatest xs)) (sym e) (is_greatest f p ps);
@@ -105,11 +108,14 @@ any_is : {A B : Type 0} (q : B → Bool) (h : A → B) (xs : List A) → list_an
 any_is q h [] = refl
 any_is q h (x ∷ xs) = ap (λ b. q (h x) || b) (any_is q h xs)
 
-found_is : (q : Fact → Bool) (r : Point → Bool) (h : Point → Fact) (xs : List Point) → ((x : Point) → q (h x) ≡ r x) → ((x : Point) → (h x).point ≡ x) → option_map (λ f. f.point) (find q (map h xs)) ≡ find r xs
+found_is : (q : Fact → Bool) (r : Point → Bool) (h : Point → Fact) (xs : List Point) → ((x : Point) → q (h x) ≡ r x) → ((x : Point) → (h x).point ≡ x)
+    → option_map (λ f. f.point) (find q (map h xs)) ≡ find r xs
 found_is q r h [] e p = refl
 found_is q r h (x ∷ xs) e p = elim (cases_Bool (r x)) [
-  | inl t ↦ ap (option_map (λ f. f.point)) (cond-true (q (h x)) (Some (h x)) (find q (map h xs)) (e x ∙ t)) ∙ ap Some (p x) ∙ sym (cond-true (r x) (Some x) (find r xs) t)
-  | inr n ↦ ap (option_map (λ f. f.point)) (cond-false (q (h x)) (Some (h x)) (find q (map h xs)) (e x ∙ n)) ∙ found_is q r h xs e p ∙ sym (cond-false (r x) (Some x) (find r xs) n)
+  | inl t ↦ ap (option_map (λ f. f.point)) (cond-true (q (h x)) (Some (h x)) (find q (map h xs)) (e x ∙ t)) ∙ ap Some (p x)
+      ∙ sym (cond-true (r x) (Some x) (find r xs) t)
+  | inr n ↦ ap (option_map (λ f. f.point)) (cond-false (q (h x)) (Some (h x)) (find q (map h xs)) (e x ∙ n)) ∙ found_is q r h xs e p
+      ∙ sym (cond-false (r x) (Some x) (find r xs) n)
 ]
 
 left_is : (b : Bool) (n : ℕ) → is_some (cond b (Some n) None) ≡ b
@@ -142,7 +148,8 @@ measures_are object squares left labels p ps =
       deepest = found_is (λ f. f.square == depth (map h (p ∷ ps))) (λ q. square q == depth (map h (p ∷ ps))) h (p ∷ ps) (λ q. refl) (λ q. refl);
       skeleton = counts_are is_left (at left) h (p ∷ ps) (λ q. left_is (at left q) (near_count left q));
       ends = counts_are (λ f. is_end f.left) (λ q. at left q && near_count left q == 1) h (p ∷ ps) (λ q. end_is (at left q) (near_count left q));
-      junctions = counts_are (λ f. is_junction f.left) (λ q. at left q && nat_le 3 (near_count left q)) h (p ∷ ps) (λ q. junction_is (at left q) (near_count left q));
+      junctions = counts_are (λ f. is_junction f.left) (λ q. at left q && nat_le 3 (near_count left q)) h (p ∷ ps)
+          (λ q. junction_is (at left q) (near_count left q));
       exposed = sums_are (λ f. f.exposed) h (p ∷ ps);
       touches = any_is (λ f. f.rim) h (p ∷ ps);
     }

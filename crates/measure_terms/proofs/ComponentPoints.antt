@@ -20,7 +20,8 @@ abbrev pub fact : (object : Picture) (squares : List ℕ) (left : Picture) (labe
 fact object squares left labels p = fact_of object squares left labels (raster_number left.sides p) p
 
 -- a label that is not 0 is that of an object point
-pub seen : (X : Picture) (labels : List ℕ) (k i : ℕ) → 0 < k → (get_or labels i 0 == k) ≡ true → (at X (raster_point X.sides i) ≡ false → get_or labels i 0 ≡ 0) → at X (raster_point X.sides i) ≡ true
+pub seen : (X : Picture) (labels : List ℕ) (k i : ℕ) → 0 < k → (get_or labels i 0 == k) ≡ true → (at X (raster_point X.sides i) ≡ false → get_or labels i 0 ≡ 0)
+    → at X (raster_point X.sides i) ≡ true
 seen X labels k i some t back = elim (cases_Bool (at X (raster_point X.sides i))) [
   | inl o ↦ o
   | inr f ↦ (let z = back f in absurd (grind (arith, nat_tests)))
@@ -36,7 +37,8 @@ passed p q x xs f = elim (cases_Bool (p x)) [
 -- the facts of an object as those of its points, found one after the other in a part of the box
 part_of_box : (object : Picture) (squares : List ℕ) (left X : Picture) (labels : List ℕ) (k a n : ℕ) → left.sides ≡ X.sides → 0 < k → a + n ≤ box_count X.sides
     → ((i : ℕ) → i < box_count X.sides → at X (raster_point X.sides i) ≡ false → get_or labels i 0 ≡ 0)
-    → facts_of k (map (fact_at object squares left labels) (range_with_len a n)) ≡ map (fact object squares left labels) (filter (λ p. get_or labels (raster_number X.sides p) 0 == k) (filter (at X) (map (raster_point X.sides) (range_with_len a n))))
+    → facts_of k (map (fact_at object squares left labels) (range_with_len a n)) ≡ map (fact object squares left labels)
+    (filter (λ p. get_or labels (raster_number X.sides p) 0 == k) (filter (at X) (map (raster_point X.sides) (range_with_len a n))))
 part_of_box object squares left X labels k a zero s some l back = refl
 part_of_box object squares left X labels k a (suc n) s some l back =
     let r = part_of_box object squares left X labels k (a + 1) n s some (omega arith) back in
@@ -56,7 +58,8 @@ part_of_box object squares left X labels k a (suc n) s some l back =
           cond-true (get_or labels a 0 == k) (fact_at object squares left labels a ∷ facts_of k facts_rest) (facts_of k facts_rest) t
           ∙ (λ i. one i ∷ r i)
           ∙ sym (ap (λ l. map (fact object squares left labels) (filter test l)) (cond-true (at X p) (p ∷ filter (at X) rest) (filter (at X) rest) filled)
-          ∙ ap (map (fact object squares left labels)) (cond-true (test p) (p ∷ filter test (filter (at X) rest)) (filter test (filter (at X) rest)) (same ∙ t))))
+          ∙ ap (map (fact object squares left labels))
+          (cond-true (test p) (p ∷ filter test (filter (at X) rest)) (filter test (filter (at X) rest)) (same ∙ t))))
       | inr f ↦ cond-false (get_or labels a 0 == k) (fact_at object squares left labels a ∷ facts_of k facts_rest) (facts_of k facts_rest) f
           ∙ r ∙ sym (ap (map (fact object squares left labels)) (passed (at X) test p rest (same ∙ f)))
     ]
@@ -67,4 +70,5 @@ pub facts_are : (object : Picture) (squares : List ℕ) (left X : Picture) (labe
 facts_are object squares left X labels k s some named =
     ap (λ n. facts_of k (facts_below object squares left labels (box_count n))) s
     ∙ part_of_box object squares left X labels k 0 (box_count X.sides) s some (omega arith) named.background
-    ∙ ap (λ ps. map (fact object squares left labels) (filter (λ p. get_or labels (raster_number X.sides p) 0 == k) (filter (at X) ps))) (sym (box_points_are X.sides))
+    ∙ ap (λ ps. map (fact object squares left labels) (filter (λ p. get_or labels (raster_number X.sides p) 0 == k) (filter (at X) ps)))
+    (sym (box_points_are X.sides))

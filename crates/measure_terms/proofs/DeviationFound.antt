@@ -47,7 +47,9 @@ deviation_is s r l h =
     let high = h.high in
     let pass : is_deviation_below s r ≡ true = grind (arith, nat_tests, high) in
     let few = small s r l h in
-    sym (ap (λ o. unwrap_or o 0) (first_found (is_deviation_below s) 0 (s.squares + 1) r (omega arith) (omega (arith, few)) pass (λ m _ k. let low = h.low m k in grind (arith, nat_tests, low))))
+    sym (ap (λ o. unwrap_or o 0)
+    (first_found (is_deviation_below s) 0 (s.squares + 1) r (omega arith) (omega (arith, few)) pass
+    (λ m _ k. let low = h.low m k in grind (arith, nat_tests, low))))
 
 -- half the whole root of four times the spread by the square of the count, rounded up; q is that quotient, rounded down
 from_quotient : (s : ThicknessSum) (spread q w r : ℕ) → 0 < s.count → spread ≡ s.count * s.squares - s.diameters * s.diameters

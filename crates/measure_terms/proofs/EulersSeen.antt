@@ -35,7 +35,8 @@ last_or_before sides labels k i p s =
     elim split [ inl m ↦ inl (record { is = s.is; below = m }) | inr e ↦ inr e ]
 
 -- a point with another label
-pub other_seen : (sides labels : List ℕ) (k i : ℕ) (n : ℤ) → (get_or labels i 0 ≡ k → ⊥) → IsEulerNumber (IsSeen sides labels k i) n → IsEulerNumber (IsSeen sides labels k (i + 1)) n
+pub other_seen : (sides labels : List ℕ) (k i : ℕ) (n : ℤ) → (get_or labels i 0 ≡ k → ⊥) → IsEulerNumber (IsSeen sides labels k i) n
+    → IsEulerNumber (IsSeen sides labels k (i + 1)) n
 other_seen sides labels k i n other h = same_euler (IsSeen sides labels k i) (IsSeen sides labels k (i + 1)) n (more_seen sides labels k i)
     (λ p s. elim (last_or_before sides labels k i p s) [ inl t ↦ t | inr e ↦ absurd (other (ap (λ j. get_or labels j 0) (sym e) ∙ s.is.label)) ]) h
 

@@ -66,7 +66,8 @@ hull_of_corners S h is =
 whole : (m n : ℕ) → pos m ≡ pos n → m ≡ n
 whole m n e = omega (arith, ints, e)
 
-same_numbers : (y z : HullSize) → y.double_area ≡ z.double_area → y.perimeter ≡ z.perimeter → y.across ≡ z.across → y.length ≡ z.length → y.min_feret ≡ z.min_feret → y.dx ≡ z.dx → y.dy ≡ z.dy → y ≡ z
+same_numbers : (y z : HullSize) → y.double_area ≡ z.double_area → y.perimeter ≡ z.perimeter → y.across ≡ z.across → y.length ≡ z.length
+    → y.min_feret ≡ z.min_feret → y.dx ≡ z.dx → y.dy ≡ z.dy → y ≡ z
 same_numbers y z a b c d e f g = λ i. record { double_area = a i; perimeter = b i; across = c i; length = d i; min_feret = e i; dx = f i; dy = g i }
 
 -- a root of a quotient is one
@@ -86,7 +87,8 @@ size_of_polygon h v w y z a b =
     let e = one_side h v w a.least b.least in
     let across = whole y.across z.across (a.across ∙ one_across h v w a.least.is b.least.is e ∙ sym b.across) in
     let long = whole y.length z.length (a.length ∙ one_length h v w a.least.is b.least.is e ∙ sym b.length) in
-    let root = subst (λ t. IsQuotientRoot (z.across * z.across) t y.min_feret) long (subst (λ s. IsQuotientRoot (s * s) y.length y.min_feret) across a.min_feret) in
+    let root = subst (λ t. IsQuotientRoot (z.across * z.across) t y.min_feret) long
+    (subst (λ s. IsQuotientRoot (s * s) y.length y.min_feret) across a.min_feret) in
     same_numbers y z
     (whole y.double_area z.double_area (a.double_area ∙ sym b.double_area))
     (whole y.perimeter z.perimeter (a.perimeter ∙ sym b.perimeter))
@@ -103,25 +105,30 @@ one_size S y z a b =
 pub size_is_least : (S : Point → Type 0) (z : HullSize) → IsHullSize S z → IsLeastWidth (IsCornerOf S) (pos z.across) (pos z.length)
 size_is_least S z h =
     let l = least_of_all (IsCornerOf S) h.hull h.is (hull_of_corners S h.hull h.is) h.width h.size.least in
-    subst (λ x. IsLeastWidth (IsCornerOf S) x (pos z.length)) (sym h.size.across) (subst (λ x. IsLeastWidth (IsCornerOf S) h.width.across x) (sym h.size.length) l)
+    subst (λ x. IsLeastWidth (IsCornerOf S) x (pos z.length)) (sym h.size.across)
+    (subst (λ x. IsLeastWidth (IsCornerOf S) h.width.across x) (sym h.size.length) l)
 
 -- ---- components
 
 -- the sizes by the labels of a picture's object are those of its components
-pub hulls_measure : (X : Picture) (labels : List ℕ) (n : ℕ) (zs : List HullSize) → LabelsObject X labels → n ≤ greatest labels → AreHulls X.sides labels n zs → HullsComponents X labels n zs
+pub hulls_measure : (X : Picture) (labels : List ℕ) (n : ℕ) (zs : List HullSize) → LabelsObject X labels → n ≤ greatest labels → AreHulls X.sides labels n zs
+    → HullsComponents X labels n zs
 hulls_measure X labels n zs named few h = record {
   each = λ k d l.
       let p = some_of_labels X labels k named (omega (arith, l, few)) in
       let one = h.each k d p.0 l (has_label X labels k p.0 p.1) in
-      same_size (HasLabel X.sides labels (k + 1)) (Contains (component X labels (k + 1))) (get_or zs k d) (λ q. in_component X labels k q named) (has_label X labels k) one;
+      same_size (HasLabel X.sides labels (k + 1)) (Contains (component X labels (k + 1))) (get_or zs k d) (λ q. in_component X labels k q named)
+      (has_label X labels k) one;
 }
 
 -- and two lists of them agree in each row
-pub hulls_are_one : (X : Picture) (labels : List ℕ) (n : ℕ) (ys zs : List HullSize) → HullsComponents X labels n ys → HullsComponents X labels n zs → (k : ℕ) (d : HullSize) → k < n → get_or ys k d ≡ get_or zs k d
+pub hulls_are_one : (X : Picture) (labels : List ℕ) (n : ℕ) (ys zs : List HullSize) → HullsComponents X labels n ys → HullsComponents X labels n zs
+    → (k : ℕ) (d : HullSize) → k < n → get_or ys k d ≡ get_or zs k d
 hulls_are_one X labels n ys zs a b k d l = one_size (Contains (component X labels (k + 1))) (get_or ys k d) (get_or zs k d) (a.each k d l) (b.each k d l)
 
 -- the sizes by the labels of a table are those of the components
-pub hulls_table : (X left : Picture) (squares : List ℕ) (table : List Measures) (zs : List HullSize) → (h : IsTable X squares left table) → AreHulls X.sides h.labels (greatest h.labels) zs
+pub hulls_table : (X left : Picture) (squares : List ℕ) (table : List Measures) (zs : List HullSize) → (h : IsTable X squares left table)
+    → AreHulls X.sides h.labels (greatest h.labels) zs
     → HullsComponents X h.labels (length table) zs
 hulls_table X left squares table zs h a =
     let len = table_length X left squares table h in

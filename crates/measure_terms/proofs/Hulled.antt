@@ -112,11 +112,14 @@ hull_of_two S h p q is a b apart =
     ]
 
 -- two steps that do not turn from a third, which is no point, do not turn from one another
-pub on_one_line : (dx dy ax ay bx by : ℤ) → pos 0 ≤ℤ dy → (dy ≡ pos 0 → pos 0 <ℤ dx) → det ax ay dx dy ≡ pos 0 → det bx by dx dy ≡ pos 0 → det ax ay bx by ≡ pos 0
+pub on_one_line : (dx dy ax ay bx by : ℤ) → pos 0 ≤ℤ dy → (dy ≡ pos 0 → pos 0 <ℤ dx) → det ax ay dx dy ≡ pos 0 → det bx by dx dy ≡ pos 0
+    → det ax ay bx by ≡ pos 0
 on_one_line dx dy ax ay bx by up right e f =
     by_lt_z (pos 0) dy
-    (λ (l : pos 0 <ℤ dy). let s = share_y ax ay bx by dx dy in no_factor dy (det ax ay bx by) l (gone (det ax ay bx by) dy (det ax ay dx dy) by (det bx by dx dy) ay s e f))
-    (λ (l : dy ≤ℤ pos 0). let s = share_x ax ay bx by dx dy in no_factor dx (det ax ay bx by) (right (omega (arith, ints, up, l))) (gone (det ax ay bx by) dx (det ax ay dx dy) bx (det bx by dx dy) ax s e f))
+    (λ (l : pos 0 <ℤ dy). let s = share_y ax ay bx by dx dy in
+    no_factor dy (det ax ay bx by) l (gone (det ax ay bx by) dy (det ax ay dx dy) by (det bx by dx dy) ay s e f))
+    (λ (l : dy ≤ℤ pos 0). let s = share_x ax ay bx by dx dy in no_factor dx (det ax ay bx by) (right (omega (arith, ints, up, l)))
+    (gone (det ax ay bx by) dx (det ax ay dx dy) bx (det bx by dx dy) ax s e f))
   where
     gone : (w z x u y v : ℤ) → w *ℤ z ≡ x *ℤ u -ℤ y *ℤ v → x ≡ pos 0 → y ≡ pos 0 → w *ℤ z ≡ pos 0
     gone w z x u y v s g h = let a = ap (λ t. t *ℤ u) g in let b = ap (λ t. t *ℤ v) h in omega (arith, ints, rings, s, a, b)
@@ -172,7 +175,8 @@ pub hull_of_three : (S : Corner → Type 0) (h : List Corner) (p q r : Corner) �
 hull_of_three S h p q r is a b c turns =
     let many = hull_of_two S h p q is a b (λ e. turns (subst (λ z. turn p z r ≡ pos 0) e (stay p r))) in
     elim (two_or_more (length h) many) [
-      | inl e ↦ absurd (turns (flat (vertex h 0) (vertex h 1) (two_apart S h is e) p q r (two_on_line S h is e p a) (two_on_line S h is e q b) (two_on_line S h is e r c)))
+      | inl e ↦ absurd (turns
+          (flat (vertex h 0) (vertex h 1) (two_apart S h is e) p q r (two_on_line S h is e p a) (two_on_line S h is e q b) (two_on_line S h is e r c)))
       | inr l ↦ l
     ]
   where
@@ -180,7 +184,8 @@ hull_of_three S h p q r is a b c turns =
     stay t s = omega (arith, ints, rings)
 
     along_line : (dx dy ux uy vx vy : ℤ) → det dx dy ux uy ≡ pos 0 → det dx dy vx vy ≡ pos 0 → det (vx -ℤ ux) (vy -ℤ uy) dx dy ≡ pos 0
-    along_line dx dy ux uy vx vy e f = let a = less_left vx vy ux uy dx dy in let b = swap ux uy dx dy in let c = swap vx vy dx dy in omega (arith, ints, e, f, a, b, c)
+    along_line dx dy ux uy vx vy e f = let a = less_left vx vy ux uy dx dy in let b = swap ux uy dx dy in let c = swap vx vy dx dy in
+        omega (arith, ints, e, f, a, b, c)
 
     flat : (u v : Corner) → IsBefore u v → (x y z : Corner) → turn u v x ≡ pos 0 → turn u v y ≡ pos 0 → turn u v z ≡ pos 0 → turn x y z ≡ pos 0
     flat u v h x y z e f g =

@@ -17,7 +17,8 @@ use Rattle.measure_terms.proofs.ComponentPoints.{seen}
 use Rattle.measure_terms.proofs.TableOfComponents.{table_length}
 
 -- a filter changes nothing before a stricter one
-stricter : {X : Type 0} (p q : X → Bool) (xs : List X) → ((i : ℕ) (d : X) → i < length xs → q (get_or xs i d) ≡ true → p (get_or xs i d) ≡ true) → filter q (filter p xs) ≡ filter q xs
+stricter : {X : Type 0} (p q : X → Bool) (xs : List X) → ((i : ℕ) (d : X) → i < length xs → q (get_or xs i d) ≡ true → p (get_or xs i d) ≡ true)
+    → filter q (filter p xs) ≡ filter q xs
 stricter p q [] h = refl
 stricter p q (x ∷ xs) h =
     let rest = stricter p q xs (λ i d l. h (suc i) d (omega (arith, l))) in
@@ -29,7 +30,8 @@ stricter p q (x ∷ xs) h =
       ]
     ]
   where
-    kept : (b : Bool) → filter q (filter p xs) ≡ filter q xs → cond b (x ∷ filter q (filter p xs)) (filter q (filter p xs)) ≡ cond b (x ∷ filter q xs) (filter q xs)
+    kept : (b : Bool) → filter q (filter p xs) ≡ filter q xs
+        → cond b (x ∷ filter q (filter p xs)) (filter q (filter p xs)) ≡ cond b (x ∷ filter q xs) (filter q xs)
     kept b e = ap (λ ys. cond b (x ∷ ys) ys) e
 
 -- the points with a label that is not 0 are those of the component
@@ -41,14 +43,16 @@ labelled_are X labels k named = stricter (at X) (λ p. get_or labels (raster_num
     let label = ap (λ j. get_or labels j 0 == k + 1) (sym number) ∙ t in
     ap (at X) here ∙ seen X labels (k + 1) i (omega arith) label (named.background i m))
 
-pub moments_measure : (X : Picture) (labels : List ℕ) (n : ℕ) (ms : List Moments) → LabelsObject X labels → AreMoments X.sides labels n ms → MomentsComponents X labels n ms
+pub moments_measure : (X : Picture) (labels : List ℕ) (n : ℕ) (ms : List Moments) → LabelsObject X labels → AreMoments X.sides labels n ms
+    → MomentsComponents X labels n ms
 moments_measure X labels n ms named h = record {
   count = h.count;
   each = λ k d l. h.each k d l ∙ ap moments_of (sym (labelled_are X labels k named));
 }
 
 -- the moments by the labels of a table are those of the components
-pub moments_table : (X left : Picture) (squares : List ℕ) (table : List Measures) (ms : List Moments) → (h : IsTable X squares left table) → AreMoments X.sides h.labels (greatest h.labels) ms
+pub moments_table : (X left : Picture) (squares : List ℕ) (table : List Measures) (ms : List Moments) → (h : IsTable X squares left table)
+    → AreMoments X.sides h.labels (greatest h.labels) ms
     → MomentsComponents X h.labels (length table) ms
 moments_table X left squares table ms h m =
     subst (λ n. MomentsComponents X h.labels n ms) (sym (table_length X left squares table h)) (moments_measure X h.labels (greatest h.labels) ms h.named m)

@@ -16,7 +16,8 @@ dot ax ay bx by = ax *ℤ bx +ℤ ay *ℤ by
 
 -- of three steps in the plane each is a sum of shares of the others
 triple : (a b px py qx qy rx ry : ℤ) → dot a b px py *ℤ det qx qy rx ry ≡ dot a b qx qy *ℤ det px py rx ry -ℤ dot a b rx ry *ℤ det px py qx qy
-triple a b px py qx qy rx ry = weighed a b (det qx qy rx ry) (det px py rx ry) (det px py qx qy) px py qx qy rx ry (share px py qx qy rx ry) (share' px py qx qy rx ry)
+triple a b px py qx qy rx ry = weighed a b (det qx qy rx ry) (det px py rx ry) (det px py qx qy) px py qx qy rx ry (share px py qx qy rx ry)
+    (share' px py qx qy rx ry)
   where
     share : (ex ey fx fy zx zy : ℤ) → det fx fy zx zy *ℤ ex ≡ det ex ey zx zy *ℤ fx -ℤ det ex ey fx fy *ℤ zx
     share ex ey fx fy zx zy = omega (arith, ints, rings3)
@@ -30,13 +31,17 @@ triple a b px py qx qy rx ry = weighed a b (det qx qy rx ry) (det px py rx ry) (
     sum : (d e f x y z u v w : ℤ) → x *ℤ d ≡ y *ℤ e -ℤ z *ℤ f → u *ℤ d ≡ v *ℤ e -ℤ w *ℤ f → (x +ℤ u) *ℤ d ≡ (y +ℤ v) *ℤ e -ℤ (z +ℤ w) *ℤ f
     sum d e f x y z u v w h k = omega (arith, ints, rings, h, k)
 
-    weighed : (c g d e f x u y v z w : ℤ) → d *ℤ x ≡ e *ℤ y -ℤ f *ℤ z → d *ℤ u ≡ e *ℤ v -ℤ f *ℤ w → (c *ℤ x +ℤ g *ℤ u) *ℤ d ≡ (c *ℤ y +ℤ g *ℤ v) *ℤ e -ℤ (c *ℤ z +ℤ g *ℤ w) *ℤ f
+    weighed : (c g d e f x u y v z w : ℤ) → d *ℤ x ≡ e *ℤ y -ℤ f *ℤ z → d *ℤ u ≡ e *ℤ v -ℤ f *ℤ w
+        → (c *ℤ x +ℤ g *ℤ u) *ℤ d ≡ (c *ℤ y +ℤ g *ℤ v) *ℤ e -ℤ (c *ℤ z +ℤ g *ℤ w) *ℤ f
     weighed c g d e f x u y v z w h k = sum d e f (c *ℤ x) (c *ℤ y) (c *ℤ z) (g *ℤ u) (g *ℤ v) (g *ℤ w) (one c d e f x y z h) (one g d e f u v w k)
 
 -- a direction along which two steps that turn do not lead on is none
 pub no_direction : (a b ex ey fx fy : ℤ) → dot a b ex ey ≡ pos 0 → dot a b fx fy ≡ pos 0 → pos 0 <ℤ det ex ey fx fy → (a ≡ pos 0) × (b ≡ pos 0)
-no_direction a b ex ey fx fy e f d =
-    (none (det ex ey fx fy) a (dot a b ex ey) (dot a b fx fy) fy ey d (first a b ex ey fx fy) e f, none (det ex ey fx fy) b (dot a b fx fy) (dot a b ex ey) ex fx d (second a b ex ey fx fy) f e)
+no_direction a b ex ey fx fy e f d = (
+  none (det ex ey fx fy) a (dot a b ex ey) (dot a b fx fy) fy ey d (first a b ex ey fx fy) e f,
+  none (det ex ey fx fy) b (dot a b fx fy) (dot a b ex ey) ex
+      fx d (second a b ex ey fx fy) f e,
+)
   where
     first : (c g x y u v : ℤ) → c *ℤ det x y u v ≡ dot c g x y *ℤ v -ℤ dot c g u v *ℤ y
     first c g x y u v = omega (arith, ints, rings3)
@@ -72,7 +77,8 @@ down_down x y a b = let h = mul-nonneg (neg_ℤ x) (neg_ℤ y) (omega (arith, in
 
 -- ---- the vertices at both ends of a direction: e and f lead to and from the one that lies farthest along it, g and h to and from the one that lies least far
 
-module _ (a b ex ey fx fy gx gy hx hy : ℤ) (some : (a ≡ pos 0) × (b ≡ pos 0) → ⊥) (to : pos 0 ≤ℤ dot a b ex ey) (from : dot a b fx fy ≤ℤ pos 0) (to' : dot a b gx gy ≤ℤ pos 0)
+module _ (a b ex ey fx fy gx gy hx hy : ℤ) (some : (a ≡ pos 0) × (b ≡ pos 0) → ⊥) (to : pos 0 ≤ℤ dot a b ex ey) (from : dot a b fx fy ≤ℤ pos 0)
+    (to' : dot a b gx gy ≤ℤ pos 0)
     (from' : pos 0 ≤ℤ dot a b hx hy) (bend : pos 0 <ℤ det ex ey fx fy) (bend' : pos 0 <ℤ det gx gy hx hy) where
   -- across the side that leads to the one the other is least, where the side that leads to that turns from it to the left
   pub least_across_to : pos 0 ≤ℤ det ex ey gx gy → det ex ey hx hy ≤ℤ pos 0
@@ -82,12 +88,14 @@ module _ (a b ex ey fx fy gx gy hx hy : ℤ) (some : (a ≡ pos 0) × (b ≡ pos
       let less : pos 0 ≤ℤ det ex ey hx hy = omega (arith, ints, m) in
       let t = triple a b ex ey gx gy hx hy in
       let r = no_less (dot a b ex ey *ℤ det gx gy hx hy) (neg_ℤ (dot a b gx gy *ℤ det ex ey hx hy)) (dot a b hx hy *ℤ det ex ey gx gy)
-      (up_up (dot a b ex ey) (det gx gy hx hy) to (omega (arith, ints, bend'))) (down_up (dot a b gx gy) (det ex ey hx hy) to' less) (up_up (dot a b hx hy) (det ex ey gx gy) from' l)
+      (up_up (dot a b ex ey) (det gx gy hx hy) to (omega (arith, ints, bend'))) (down_up (dot a b gx gy) (det ex ey hx hy) to' less)
+      (up_up (dot a b hx hy) (det ex ey gx gy) from' l)
       (same (dot a b ex ey *ℤ det gx gy hx hy) (dot a b gx gy *ℤ det ex ey hx hy) (dot a b hx hy *ℤ det ex ey gx gy) t) in
       let zero_to = no_factor (det gx gy hx hy) (dot a b ex ey) bend' r.0 in
       let s = triple a b ex ey fx fy hx hy in
       let first = ap (λ z. z *ℤ det fx fy hx hy) zero_to in
-      let q = both (dot a b fx fy *ℤ det ex ey hx hy) (dot a b hx hy *ℤ det ex ey fx fy) (dot a b ex ey *ℤ det fx fy hx hy) s (zero_times (det fx fy hx hy) (dot a b ex ey) zero_to)
+      let q = both (dot a b fx fy *ℤ det ex ey hx hy) (dot a b hx hy *ℤ det ex ey fx fy) (dot a b ex ey *ℤ det fx fy hx hy) s
+      (zero_times (det fx fy hx hy) (dot a b ex ey) zero_to)
       (down_up (dot a b fx fy) (det ex ey hx hy) from less) (up_up (dot a b hx hy) (det ex ey fx fy) from' (omega (arith, ints, bend))) in
       let zero_from = no_factor (det ex ey hx hy) (dot a b fx fy) m q in
       absurd (some (no_direction a b ex ey fx fy zero_to zero_from bend)))
@@ -113,10 +121,12 @@ module _ (a b ex ey fx fy gx gy hx hy : ℤ) (some : (a ≡ pos 0) × (b ≡ pos
       let less : det fx fy gx gy ≤ℤ pos 0 = omega (arith, ints, m) in
       let t = triple a b fx fy gx gy hx hy in
       let r = all (dot a b fx fy *ℤ det gx gy hx hy) (dot a b gx gy *ℤ det fx fy hx hy) (dot a b hx hy *ℤ det fx fy gx gy) t
-      (down_up (dot a b fx fy) (det gx gy hx hy) from (omega (arith, ints, bend'))) (down_down (dot a b gx gy) (det fx fy hx hy) to' l) (up_down (dot a b hx hy) (det fx fy gx gy) from' less) in
+      (down_up (dot a b fx fy) (det gx gy hx hy) from (omega (arith, ints, bend'))) (down_down (dot a b gx gy) (det fx fy hx hy) to' l)
+      (up_down (dot a b hx hy) (det fx fy gx gy) from' less) in
       let zero_from = no_factor (det gx gy hx hy) (dot a b fx fy) bend' r in
       let s = triple a b ex ey fx fy gx gy in
-      let q = both (dot a b ex ey *ℤ det fx fy gx gy) (dot a b fx fy *ℤ det ex ey gx gy) (dot a b gx gy *ℤ det ex ey fx fy) s (zero_times (det ex ey gx gy) (dot a b fx fy) zero_from)
+      let q = both (dot a b ex ey *ℤ det fx fy gx gy) (dot a b fx fy *ℤ det ex ey gx gy) (dot a b gx gy *ℤ det ex ey fx fy) s
+      (zero_times (det ex ey gx gy) (dot a b fx fy) zero_from)
       (up_down (dot a b ex ey) (det fx fy gx gy) to less) (down_up (dot a b gx gy) (det ex ey fx fy) to' (omega (arith, ints, bend))) in
       let zero_to = no_factor (neg_ℤ (det fx fy gx gy)) (dot a b ex ey) (omega (arith, ints, m)) (negated (dot a b ex ey) (det fx fy gx gy) q) in
       absurd (some (no_direction a b ex ey fx fy zero_to zero_from bend)))
@@ -143,7 +153,8 @@ module _ (a b ex ey fx fy gx gy hx hy : ℤ) (some : (a ≡ pos 0) × (b ≡ pos
 -- ---- a direction turned away from a step shortens it
 
 -- of numbers p / A and q / B that are cosines, with r and s their sines: where the angle grows, the cosine falls
-smaller : (p q r s m n k : ℤ) → m *ℤ k ≡ p *ℤ p +ℤ r *ℤ r → n *ℤ k ≡ q *ℤ q +ℤ s *ℤ s → pos 0 <ℤ k → pos 0 ≤ℤ p → pos 0 ≤ℤ s → (p *ℤ s) ≤ℤ (q *ℤ r) → ((p *ℤ p) *ℤ n) ≤ℤ ((q *ℤ q) *ℤ m)
+smaller : (p q r s m n k : ℤ) → m *ℤ k ≡ p *ℤ p +ℤ r *ℤ r → n *ℤ k ≡ q *ℤ q +ℤ s *ℤ s → pos 0 <ℤ k → pos 0 ≤ℤ p → pos 0 ≤ℤ s → (p *ℤ s) ≤ℤ (q *ℤ r)
+    → ((p *ℤ p) *ℤ n) ≤ℤ ((q *ℤ q) *ℤ m)
 smaller p q r s m n k e f some u v l =
     let g = squares (p *ℤ s) (q *ℤ r) (mul-nonneg p s u v) l in
     cancel-le_ℤ k ((p *ℤ p) *ℤ n) ((q *ℤ q) *ℤ m) some (weighed (p *ℤ p) (q *ℤ q) (r *ℤ r) (s *ℤ s) m n k e f (order p q r s g))
@@ -201,7 +212,8 @@ lagrange a b x y =
 turned_by : (a b c g x y : ℤ) → det c g a b *ℤ (x *ℤ x +ℤ y *ℤ y) ≡ dot a b x y *ℤ det c g x y -ℤ dot c g x y *ℤ det a b x y
 turned_by a b c g x y =
     let n = x *ℤ x +ℤ y *ℤ y in
-    apart a b c g n ∙ (λ i. c *ℤ second a b x y i -ℤ g *ℤ first a b x y i) ∙ whole c g x y (dot a b x y) (det a b x y) ∙ either (dot a b x y *ℤ det c g x y) (det a b x y) (dot c g x y)
+    apart a b c g n ∙ (λ i. c *ℤ second a b x y i -ℤ g *ℤ first a b x y i) ∙ whole c g x y (dot a b x y) (det a b x y)
+    ∙ either (dot a b x y *ℤ det c g x y) (det a b x y) (dot c g x y)
   where
     either : (z s p : ℤ) → z -ℤ s *ℤ p ≡ z -ℤ p *ℤ s
     either z s p = omega (arith, ints, rings)
@@ -229,7 +241,8 @@ no_square : (x y : ℤ) → (x *ℤ x +ℤ y *ℤ y) ≤ℤ pos 0 → x ≡ pos 
 no_square x y l =
     let b = square y in
     by_lt_z x (pos 0)
-    (λ (m : x <ℤ pos 0). absurd (let c = mul-lt_ℤ (neg_ℤ x) (pos 0) (neg_ℤ x) (omega (arith, ints, m)) (omega (arith, ints, m)) in omega (arith, ints, rings, c, b, l)))
+    (λ (m : x <ℤ pos 0). absurd
+    (let c = mul-lt_ℤ (neg_ℤ x) (pos 0) (neg_ℤ x) (omega (arith, ints, m)) (omega (arith, ints, m)) in omega (arith, ints, rings, c, b, l)))
     (λ (m : pos 0 ≤ℤ x). by_lt_z (pos 0) x
     (λ (o : pos 0 <ℤ x). absurd (let c = mul-lt_ℤ x (pos 0) x o o in omega (arith, ints, rings, c, b, l)))
     (λ (o : x ≤ℤ pos 0). omega (arith, ints, m, o)))
@@ -238,7 +251,9 @@ pub some_square : (a b x y : ℤ) → pos 0 <ℤ dot a b x y → pos 0 <ℤ (x *
 some_square a b x y l =
     by_lt_z (pos 0) (x *ℤ x +ℤ y *ℤ y)
     (λ (m : pos 0 <ℤ (x *ℤ x +ℤ y *ℤ y)). m)
-    (λ (m : (x *ℤ x +ℤ y *ℤ y) ≤ℤ pos 0). absurd (let e = ap (λ t. a *ℤ t) (no_square x y m) in let f = ap (λ t. b *ℤ t) (no_square y x (omega (arith, ints, m))) in omega (arith, ints, rings, e, f, l)))
+    (λ (m : (x *ℤ x +ℤ y *ℤ y) ≤ℤ pos 0). absurd
+    (let e = ap (λ t. a *ℤ t) (no_square x y m) in let f = ap (λ t. b *ℤ t) (no_square y x (omega (arith, ints, m))) in
+    omega (arith, ints, rings, e, f, l)))
 
 -- the direction across the side s is reached by turning u away from d: so it gives no more width
 pub shorter : (a b sx sy x y p : ℤ) → p ≡ dot sy (neg_ℤ sx) x y → pos 0 ≤ℤ p → pos 0 ≤ℤ det a b x y → pos 0 ≤ℤ dot a b sx sy → pos 0 <ℤ (x *ℤ x +ℤ y *ℤ y)
@@ -267,14 +282,17 @@ pub shorter' : (a b sx sy x y p : ℤ) → p ≡ dot sy (neg_ℤ sx) x y → pos
     → ((p *ℤ p) *ℤ (a *ℤ a +ℤ b *ℤ b)) ≤ℤ ((dot a b x y *ℤ dot a b x y) *ℤ (sx *ℤ sx +ℤ sy *ℤ sy))
 shorter' a b sx sy x y p is up turn side some =
     let e = mirror_dot a b x y in
-    let k = shorter (neg_ℤ a) b sx (neg_ℤ sy) (neg_ℤ x) y p (is ∙ mirror_p sx sy x y) up (mirror_turn a b x y turn) (mirror_side a b sx sy side) (subst (λ z. pos 0 <ℤ z) (mirror_some x y) some) in
-    finish ((p *ℤ p)) (a *ℤ a +ℤ b *ℤ b) (neg_ℤ a *ℤ neg_ℤ a +ℤ b *ℤ b) (dot a b x y) (dot (neg_ℤ a) b (neg_ℤ x) y) (sx *ℤ sx +ℤ sy *ℤ sy) (sx *ℤ sx +ℤ neg_ℤ sy *ℤ neg_ℤ sy) (lengths a b) e (mirror_length sx sy) k
+    let k = shorter (neg_ℤ a) b sx (neg_ℤ sy) (neg_ℤ x) y p (is ∙ mirror_p sx sy x y) up (mirror_turn a b x y turn) (mirror_side a b sx sy side)
+    (subst (λ z. pos 0 <ℤ z) (mirror_some x y) some) in
+    finish ((p *ℤ p)) (a *ℤ a +ℤ b *ℤ b) (neg_ℤ a *ℤ neg_ℤ a +ℤ b *ℤ b) (dot a b x y) (dot (neg_ℤ a) b (neg_ℤ x) y) (sx *ℤ sx +ℤ sy *ℤ sy)
+    (sx *ℤ sx +ℤ neg_ℤ sy *ℤ neg_ℤ sy) (lengths a b) e (mirror_length sx sy) k
   where
     mirror_dot : (c g z w : ℤ) → dot c g z w ≡ dot (neg_ℤ c) g (neg_ℤ z) w
     mirror_dot c g z w = omega (arith, ints, rings)
 
     finish : (o i i' j j' l l' : ℤ) → i ≡ i' → j ≡ j' → l ≡ l' → (o *ℤ i') ≤ℤ ((j' *ℤ j') *ℤ l') → (o *ℤ i) ≤ℤ ((j *ℤ j) *ℤ l)
-    finish o i i' j j' l l' e f g h = subst (λ z. (o *ℤ z) ≤ℤ ((j *ℤ j) *ℤ l)) (sym e) (subst (λ z. (o *ℤ i') ≤ℤ ((z *ℤ z) *ℤ l)) (sym f) (subst (λ z. (o *ℤ i') ≤ℤ ((j' *ℤ j') *ℤ z)) (sym g) h))
+    finish o i i' j j' l l' e f g h = subst (λ z. (o *ℤ z) ≤ℤ ((j *ℤ j) *ℤ l)) (sym e)
+        (subst (λ z. (o *ℤ i') ≤ℤ ((z *ℤ z) *ℤ l)) (sym f) (subst (λ z. (o *ℤ i') ≤ℤ ((j' *ℤ j') *ℤ z)) (sym g) h))
 
     lengths : (c g : ℤ) → c *ℤ c +ℤ g *ℤ g ≡ neg_ℤ c *ℤ neg_ℤ c +ℤ g *ℤ g
     lengths c g = omega (arith, ints, rings)

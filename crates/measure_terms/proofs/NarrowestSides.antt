@@ -122,11 +122,13 @@ module _ (S : Corner → Type 0) (h : List Corner) (is : IsHull S h) (many : 3 �
         most = λ x w.
             let s = vertex h x in
             let c = subst (λ y. pos 0 ≤ℤ turn p (vertex h y) s) e (is.left j s g (is.of x w)) in
-            let f = corner_greatest a b p t q s d c (is.left m s o (is.of x w)) (lower (along a b p) (along a b t) _ to before) (upper (along a b q) (along a b t) _ from behind) in
+            let f = corner_greatest a b p t q s d c (is.left m s o (is.of x w)) (lower (along a b p) (along a b t) _ to before)
+            (upper (along a b q) (along a b t) _ from behind) in
             compare (along a b s) (along a b t) (along a b u) (turn u v s) (turn u v t) (value s) (value t) f;
       }
 
-  width_at : (i m : ℕ) → i < length h → IsReach h i (length h) m → (w : Width) × IsOfSide h w × (w.across ≡ turn (vertex h i) (end h i) (vertex h m)) × (w.length ≡ squared_length (vertex h i) (end h i))
+  width_at : (i m : ℕ) → i < length h → IsReach h i (length h) m → (w : Width) × IsOfSide h w × (w.across ≡ turn (vertex h i) (end h i) (vertex h m))
+      × (w.length ≡ squared_length (vertex h i) (end h i))
   width_at i m l r = (
     record { side = i; across = turn (vertex h i) (end h i) (vertex h m); length = squared_length (vertex h i) (end h i) },
     record { side = l; squared = refl; far = m; reach = r; across = refl },
@@ -172,10 +174,12 @@ module _ (S : Corner → Type 0) (h : List Corner) (is : IsHull S h) (many : 3 �
     goes' = (previous (length h) m ends.least).2
 
     bend : pos 0 <ℤ det (p.x -ℤ u.x) (p.y -ℤ u.y) (v.x -ℤ p.x) (v.y -ℤ p.y)
-    bend = subst (λ z. pos 0 <ℤ z) (sym (Turns.along u p v)) (subst (λ x. pos 0 <ℤ turn u (vertex h x) (vertex h (next (length h) x))) goes (is.turns before within many))
+    bend = subst (λ z. pos 0 <ℤ z) (sym (Turns.along u p v))
+        (subst (λ x. pos 0 <ℤ turn u (vertex h x) (vertex h (next (length h) x))) goes (is.turns before within many))
 
     bend' : pos 0 <ℤ det (q.x -ℤ u'.x) (q.y -ℤ u'.y) (v'.x -ℤ q.x) (v'.y -ℤ q.y)
-    bend' = subst (λ z. pos 0 <ℤ z) (sym (Turns.along u' q v')) (subst (λ x. pos 0 <ℤ turn u' (vertex h x) (vertex h (next (length h) x))) goes' (is.turns before' within' many))
+    bend' = subst (λ z. pos 0 <ℤ z) (sym (Turns.along u' q v'))
+        (subst (λ x. pos 0 <ℤ turn u' (vertex h x) (vertex h (next (length h) x))) goes' (is.turns before' within' many))
 
     to : pos 0 ≤ℤ dot a b (p.x -ℤ u.x) (p.y -ℤ u.y)
     to = at_least a b u p (ends.up before within)
@@ -197,10 +201,12 @@ module _ (S : Corner → Type 0) (h : List Corner) (is : IsHull S h) (many : 3 �
         let f = step_along a b p v in
         let g = ends.down before within in
         let i = ends.down (next (length h) k) (next_below (length h) k ends.most) in
-        leads_on (dot a b (p.x -ℤ q.x) (p.y -ℤ q.y)) (dot a b (p.x -ℤ u.x) (p.y -ℤ u.y)) (dot a b (v.x -ℤ p.x) (v.y -ℤ p.y)) (along a b p) (along a b q) (along a b u) (along a b v) w e f g i to from
+        leads_on (dot a b (p.x -ℤ q.x) (p.y -ℤ q.y)) (dot a b (p.x -ℤ u.x) (p.y -ℤ u.y)) (dot a b (v.x -ℤ p.x) (v.y -ℤ p.y)) (along a b p) (along a b q)
+        (along a b u) (along a b v) w e f g i to from
         (λ c d. some (no_direction a b (p.x -ℤ u.x) (p.y -ℤ u.y) (v.x -ℤ p.x) (v.y -ℤ p.y) c d bend))
       where
-        leads_on : (w e f x y z t : ℤ) → w ≡ x -ℤ y → e ≡ x -ℤ z → f ≡ t -ℤ x → y ≤ℤ z → y ≤ℤ t → pos 0 ≤ℤ e → f ≤ℤ pos 0 → (e ≡ pos 0 → f ≡ pos 0 → ⊥) → pos 0 <ℤ w
+        leads_on : (w e f x y z t : ℤ) → w ≡ x -ℤ y → e ≡ x -ℤ z → f ≡ t -ℤ x → y ≤ℤ z → y ≤ℤ t → pos 0 ≤ℤ e → f ≤ℤ pos 0 → (e ≡ pos 0 → f ≡ pos 0 → ⊥)
+            → pos 0 <ℤ w
         leads_on w e f x y z t c d g i j o r never =
             by_lt_z (pos 0) w
             (λ (l : pos 0 <ℤ w). l)
@@ -218,7 +224,8 @@ module _ (S : Corner → Type 0) (h : List Corner) (is : IsHull S h) (many : 3 �
     -- across the side that leads to the one end, where the direction turns left to the way between them
     across_to : pos 0 ≤ℤ det a b x y → pos 0 ≤ℤ det (p.x -ℤ u.x) (p.y -ℤ u.y) (q.x -ℤ u'.x) (q.y -ℤ u'.y) → IsNoWider h a b (dot a b x y)
     across_to turns side =
-        let low = least_across_to a b (p.x -ℤ u.x) (p.y -ℤ u.y) (v.x -ℤ p.x) (v.y -ℤ p.y) (q.x -ℤ u'.x) (q.y -ℤ u'.y) (v'.x -ℤ q.x) (v'.y -ℤ q.y) some to from to' from' bend bend' side in
+        let low = least_across_to a b (p.x -ℤ u.x) (p.y -ℤ u.y) (v.x -ℤ p.x) (v.y -ℤ p.y) (q.x -ℤ u'.x) (q.y -ℤ u'.y) (v'.x -ℤ q.x) (v'.y -ℤ q.y) some to from
+        to' from' bend bend' side in
         let r = reaches before m before' within ends.least within' goes'
         (subst (λ i. pos 0 ≤ℤ det ((vertex h i).x -ℤ u.x) ((vertex h i).y -ℤ u.y) (q.x -ℤ u'.x) (q.y -ℤ u'.y)) (sym goes) side)
         (subst (λ i. det ((vertex h i).x -ℤ u.x) ((vertex h i).y -ℤ u.y) (v'.x -ℤ q.x) (v'.y -ℤ q.y) ≤ℤ pos 0) (sym goes) low) in
@@ -226,7 +233,8 @@ module _ (S : Corner → Type 0) (h : List Corner) (is : IsHull S h) (many : 3 �
         let left = subst (λ i. pos 0 ≤ℤ turn u (vertex h i) q) goes (is.left before q within (is.of m ends.least)) in
         let across = w.2 ∙ ap (λ i. turn u (vertex h i) q) goes in
         let long = w.3 ∙ ap (λ i. squared_length u (vertex h i)) goes in
-        let k' = shorter a b (p.x -ℤ u.x) (p.y -ℤ u.y) x y (turn u p q) (as_dot (turn u p q) (p.x -ℤ u.x) (p.y -ℤ u.y) x y (toward u p q)) left turns to (some_square a b x y apart) in
+        let k' = shorter a b (p.x -ℤ u.x) (p.y -ℤ u.y) x y (turn u p q) (as_dot (turn u p q) (p.x -ℤ u.x) (p.y -ℤ u.y) x y (toward u p q)) left turns to
+        (some_square a b x y apart) in
         record {
           width = w.0;
           is = w.1;
@@ -240,7 +248,8 @@ module _ (S : Corner → Type 0) (h : List Corner) (is : IsHull S h) (many : 3 �
     -- across the side that leads from the one end, where the direction turns right
     across_from : det a b x y ≤ℤ pos 0 → det (v.x -ℤ p.x) (v.y -ℤ p.y) (v'.x -ℤ q.x) (v'.y -ℤ q.y) ≤ℤ pos 0 → IsNoWider h a b (dot a b x y)
     across_from turns side =
-        let high = least_across_from a b (p.x -ℤ u.x) (p.y -ℤ u.y) (v.x -ℤ p.x) (v.y -ℤ p.y) (q.x -ℤ u'.x) (q.y -ℤ u'.y) (v'.x -ℤ q.x) (v'.y -ℤ q.y) some to from to' from' bend bend' side in
+        let high = least_across_from a b (p.x -ℤ u.x) (p.y -ℤ u.y) (v.x -ℤ p.x) (v.y -ℤ p.y) (q.x -ℤ u'.x) (q.y -ℤ u'.y) (v'.x -ℤ q.x) (v'.y -ℤ q.y) some to
+        from to' from' bend bend' side in
         let r = reaches k m before' ends.most ends.least within' goes' high side in
         let w = width_at k m ends.most r in
         let left = is.left k q ends.most (is.of m ends.least) in
@@ -299,7 +308,8 @@ module _ (S : Corner → Type 0) (h : List Corner) (is : IsHull S h) (many : 3 �
   no_more : (z : ℤ) → z <ℤ pos 0 → z ≤ℤ pos 0
   no_more z l = omega (arith, ints, l)
 
-  some_side : (a b : ℤ) (k m : ℕ) (ends : AreEnds h a b k m) → (IsNone a b → ⊥) → IsNoWider h a b (dot a b ((vertex h k).x -ℤ (vertex h m).x) ((vertex h k).y -ℤ (vertex h m).y))
+  some_side : (a b : ℤ) (k m : ℕ) (ends : AreEnds h a b k m) → (IsNone a b → ⊥)
+      → IsNoWider h a b (dot a b ((vertex h k).x -ℤ (vertex h m).x) ((vertex h k).y -ℤ (vertex h m).y))
   some_side a b k m ends some =
       let n = length h in
       let p = vertex h k in
@@ -323,18 +333,29 @@ module _ (S : Corner → Type 0) (h : List Corner) (is : IsHull S h) (many : 3 �
       by_lt_z (det a b x y) (pos 0)
       (λ (l : det a b x y <ℤ pos 0). by_lt_z (pos 0) (det fx fy hx hy)
       (λ (g : pos 0 <ℤ det fx fy hx hy). turned_round a b reach (dot (neg_ℤ a) (neg_ℤ b) (q.x -ℤ p.x) (q.y -ℤ p.y)) back
-      (across_from (neg_ℤ a) (neg_ℤ b) m k (opposite h a b k m ends) some' (subst (λ z. z ≤ℤ pos 0) (sym turn') (no_more (det a b x y) l)) (right_of fx fy hx hy (no_less (det fx fy hx hy) g))))
+      (across_from (neg_ℤ a) (neg_ℤ b) m k (opposite h a b k m ends) some' (subst (λ z. z ≤ℤ pos 0) (sym turn') (no_more (det a b x y) l))
+      (right_of fx fy hx hy (no_less (det fx fy hx hy) g))))
       (λ (g : det fx fy hx hy ≤ℤ pos 0). across_from a b k m ends some (no_more (det a b x y) l) g))
       (λ (l : pos 0 ≤ℤ det a b x y). by_lt_z (det ex ey gx gy) (pos 0)
       (λ (g : det ex ey gx gy <ℤ pos 0). turned_round a b reach (dot (neg_ℤ a) (neg_ℤ b) (q.x -ℤ p.x) (q.y -ℤ p.y)) back
-      (across_to (neg_ℤ a) (neg_ℤ b) m k (opposite h a b k m ends) some' (subst (λ z. pos 0 ≤ℤ z) (sym turn') l) (left_of ex ey gx gy (no_more (det ex ey gx gy) g))))
+      (across_to (neg_ℤ a) (neg_ℤ b) m k (opposite h a b k m ends) some' (subst (λ z. pos 0 ≤ℤ z) (sym turn') l)
+      (left_of ex ey gx gy (no_more (det ex ey gx gy) g))))
       (λ (g : pos 0 ≤ℤ det ex ey gx gy). across_to a b k m ends some l g))
 
   some_ends : (a b : ℤ) → (k : ℕ) × (m : ℕ) × AreEnds h a b k m
   some_ends a b =
       let one = top (λ j. along a b (vertex h j)) (length h) (omega (arith, many)) in
-      let other = top (λ j. neg_ℤ (along a b (vertex h j))) (length h) (omega (arith, many)) in
-      (one.0, other.0, record { most = one.1; least = other.1; up = one.2; down = λ j l. down (along a b (vertex h other.0)) (along a b (vertex h j)) (other.2 j l) })
+      let other = top (λ j. neg_ℤ (along a b (vertex h j))) (length h) (omega (arith, many)) in (
+        one.0,
+        other.0,
+        record {
+          most = one.1;
+          least = other.1;
+          up = one.2;
+          down = λ j l. down (along a b (vertex h other.0)) (along a b (vertex h j))
+              (other.2 j l);
+        },
+      )
     where
       down : (z w : ℤ) → neg_ℤ w ≤ℤ neg_ℤ z → z ≤ℤ w
       down z w l = omega (arith, ints, l)
@@ -346,7 +367,8 @@ module _ (S : Corner → Type 0) (h : List Corner) (is : IsHull S h) (many : 3 �
       (λ (l : pos 0 ≤ℤ z). mul-nonneg z z l l)
 
   -- fractions one after the other
-  chained : (c c' l l' n q v : ℤ) → pos 0 <ℤ l' → pos 0 ≤ℤ l → pos 0 ≤ℤ n → (c *ℤ l') ≤ℤ (c' *ℤ l) → (c' *ℤ n) ≤ℤ ((q *ℤ q) *ℤ l') → pos 0 ≤ℤ q → q ≤ℤ v → (c *ℤ n) ≤ℤ ((v *ℤ v) *ℤ l)
+  chained : (c c' l l' n q v : ℤ) → pos 0 <ℤ l' → pos 0 ≤ℤ l → pos 0 ≤ℤ n → (c *ℤ l') ≤ℤ (c' *ℤ l) → (c' *ℤ n) ≤ℤ ((q *ℤ q) *ℤ l') → pos 0 ≤ℤ q → q ≤ℤ v
+      → (c *ℤ n) ≤ℤ ((v *ℤ v) *ℤ l)
   chained c c' l l' n q v some few none least less up most =
       let a = mul-le_ℤ n (c *ℤ l') (c' *ℤ l) none least in
       let b = mul-le_ℤ l (c' *ℤ n) ((q *ℤ q) *ℤ l') few less in
@@ -360,13 +382,15 @@ module _ (S : Corner → Type 0) (h : List Corner) (is : IsHull S h) (many : 3 �
           let o = mul-le_ℤ w z w (omega (arith, ints, i, j)) j in
           omega (arith, ints, rings, g, o)
 
-      ordered : (z z' m m' o s t : ℤ) → (o *ℤ (z *ℤ m')) ≤ℤ (o *ℤ (z' *ℤ m)) → (m *ℤ (z' *ℤ o)) ≤ℤ (m *ℤ (s *ℤ m')) → ((m' *ℤ m) *ℤ s) ≤ℤ ((m' *ℤ m) *ℤ t) → (m' *ℤ (z *ℤ o)) ≤ℤ (m' *ℤ (t *ℤ m))
+      ordered : (z z' m m' o s t : ℤ) → (o *ℤ (z *ℤ m')) ≤ℤ (o *ℤ (z' *ℤ m)) → (m *ℤ (z' *ℤ o)) ≤ℤ (m *ℤ (s *ℤ m')) → ((m' *ℤ m) *ℤ s) ≤ℤ ((m' *ℤ m) *ℤ t)
+          → (m' *ℤ (z *ℤ o)) ≤ℤ (m' *ℤ (t *ℤ m))
       ordered z z' m m' o s t g i j = omega (arith, ints, rings3, g, i, j)
 
   lengthy : (w : Width) → IsOfSide h w → pos 0 <ℤ w.length
   lengthy w o = subst (λ z. pos 0 <ℤ z) (sym o.squared) ((hull_lengths S h (omega (arith, many)) is).each w.side o.side)
 
-  no_direction_less : (w : Width) → IsLeastSide h (length h) w → (a b v : ℤ) → (IsNone a b → ⊥) → IsWidth S a b v → ((w.across *ℤ w.across) *ℤ (a *ℤ a +ℤ b *ℤ b)) ≤ℤ ((v *ℤ v) *ℤ w.length)
+  no_direction_less : (w : Width) → IsLeastSide h (length h) w → (a b v : ℤ) → (IsNone a b → ⊥) → IsWidth S a b v
+      → ((w.across *ℤ w.across) *ℤ (a *ℤ a +ℤ b *ℤ b)) ≤ℤ ((v *ℤ v) *ℤ w.length)
   no_direction_less w least a b v some wide =
       let ends = some_ends a b in
       let k = ends.0 in
@@ -380,7 +404,8 @@ module _ (S : Corner → Type 0) (h : List Corner) (is : IsHull S h) (many : 3 �
       let low = ends.2.up m ends.2.least in
       chained (w.across *ℤ w.across) (s.width.across *ℤ s.width.across) w.length s.width.length (a *ℤ a +ℤ b *ℤ b) (dot a b (p.x -ℤ q.x) (p.y -ℤ q.y)) v
       (lengthy s.width s.is) (no_less w.length (lengthy w least.is)) (sum (a *ℤ a) (b *ℤ b) (square a) (square b)) no_more s.less
-      (leads (dot a b (p.x -ℤ q.x) (p.y -ℤ q.y)) (along a b p) (along a b q) reach low) (within (dot a b (p.x -ℤ q.x) (p.y -ℤ q.y)) (along a b p) (along a b q) v reach one)
+      (leads (dot a b (p.x -ℤ q.x) (p.y -ℤ q.y)) (along a b p) (along a b q) reach low)
+      (within (dot a b (p.x -ℤ q.x) (p.y -ℤ q.y)) (along a b p) (along a b q) v reach one)
     where
       sum : (z o : ℤ) → pos 0 ≤ℤ z → pos 0 ≤ℤ o → pos 0 ≤ℤ (z +ℤ o)
       sum z o g i = omega (arith, ints, g, i)

@@ -92,7 +92,8 @@ module _ (S : Point → Type 0) (p : Point) where
               ] in
               let one = one_cell_more (Cells k) c (n +ℤ (s +ℤ g)) none (few_axes k m) before in
               let e : (n +ℤ (s +ℤ g)) +ℤ sign (dimension c) ≡ n +ℤ (s +ℤ gained (length p) is_new (suc k)) =
-              ap (λ i. (n +ℤ (s +ℤ g)) +ℤ sign i) (dimension_is k m) ∙ sym (ap (λ i. n +ℤ (s +ℤ (g +ℤ i))) (cond-true (is_new k) v (pos 0) t) ∙ omega (arith, ints)) in
+              ap (λ i. (n +ℤ (s +ℤ g)) +ℤ sign i) (dimension_is k m)
+              ∙ sym (ap (λ i. n +ℤ (s +ℤ (g +ℤ i))) (cond-true (is_new k) v (pos 0) t) ∙ omega (arith, ints)) in
               subst (IsAlternatingSum (Cells (suc k))) e (same_sum (λ b. Cells k b ⊎ (c ≡ b)) (Cells (suc k)) _ (no_more k) (no_fewer k) one))
           | inr f ↦ (
               let one = same_cells (Cells k) c (n +ℤ (s +ℤ g)) (inl (inl (old k m f))) before in

@@ -90,7 +90,8 @@ module _ (p q r s t : Corner) (one : pos 0 ≤ℤ turn p q r) (other : pos 0 ≤
       let d = swap ax ay ax ay in
       omega (arith, ints, a, b, c, d)
 
-  turn_from : (o a b c : Corner) → turn a b c ≡ det ((b.x -ℤ o.x) -ℤ (a.x -ℤ o.x)) ((b.y -ℤ o.y) -ℤ (a.y -ℤ o.y)) ((c.x -ℤ o.x) -ℤ (a.x -ℤ o.x)) ((c.y -ℤ o.y) -ℤ (a.y -ℤ o.y))
+  turn_from : (o a b c : Corner) → turn a b c ≡ det ((b.x -ℤ o.x) -ℤ (a.x -ℤ o.x)) ((b.y -ℤ o.y) -ℤ (a.y -ℤ o.y)) ((c.x -ℤ o.x) -ℤ (a.x -ℤ o.x))
+      ((c.y -ℤ o.y) -ℤ (a.y -ℤ o.y))
   turn_from o a b c = let x = between o.x a.x b.x in let y = between o.y a.y b.y in let u = between o.x a.x c.x in let v = between o.y a.y c.y in cc
 
   no_more : det gx gy fx fy ≤ℤ det ex ey fx fy
@@ -154,10 +155,12 @@ later : (S : Corner → Type 0) (h : List Corner) → IsHull S h → (i : ℕ) �
 later S h is i l e =
     let c : (i < is.far) ⊎ (is.far ≤ i) = grind arith in
     elim c [
-      | inl m ↦ not_both (vertex h i) (vertex h (i + 1)) (is.once.up i m) (subst (λ p. IsUpTo p (vertex h i)) (sym e) (is.first (vertex h i) (is.of i (omega (arith, l)))))
+      | inl m ↦ not_both (vertex h i) (vertex h (i + 1)) (is.once.up i m)
+          (subst (λ p. IsUpTo p (vertex h i)) (sym e) (is.first (vertex h i) (is.of i (omega (arith, l)))))
       | inr m ↦ (
           let d = is.once.down (i + 1) (omega (arith, m)) l (omega (arith, l)) in
-          not_both (end h (i + 1)) (vertex h (i + 1)) d (subst (λ p. IsUpTo p (end h (i + 1))) (sym e) (is.first (end h (i + 1)) (is.of (next (length h) (i + 1)) (next_below (length h) (i + 1) l)))))
+          not_both (end h (i + 1)) (vertex h (i + 1)) d
+          (subst (λ p. IsUpTo p (end h (i + 1))) (sym e) (is.first (end h (i + 1)) (is.of (next (length h) (i + 1)) (next_below (length h) (i + 1) l)))))
     ]
 
 -- ---- the same rounds

@@ -1,6 +1,7 @@
 -- The measures of an object with one point more, and the bounds of what is counted and summed.
 -- Laws of lists alone.
-use Rattle.std.proofs.Common.{◌≡◌, inl, inr, ◌+◌, ◌<◌, ◌≤◌, ℕ, zero, suc, Bool, true, false, List, [], ◌∷◌, ◌++◌, length, map, get_or, refl, sym, ap, ◌∙◌, arith, length-append}
+use Rattle.std.proofs.Common.{◌≡◌, inl, inr, ◌+◌, ◌<◌, ◌≤◌, ℕ, zero, suc, Bool, true, false, List, [], ◌∷◌, ◌++◌, length, map, get_or, refl, sym, ap, ◌∙◌}
+use Rattle.std.proofs.Common.{arith, length-append}
 use Rattle.std.specs.Prelude.{sum_by, ◌==◌, min, max, Option, Some, None, cond, nat_abs, sum, count_by, ◌||◌, ◌&&◌, nat_le, nat_eq}
 use Rattle.std.specs.List.{fold, find, list_any}
 use Rattle.std.specs.Option.{option_map, is_some, option_or}
@@ -73,7 +74,8 @@ squares_more fs f = ap greatest (map-append (λ g. g.square) fs (f ∷ [])) ∙ 
 
 -- the first of all is the first before, unless the last one is greater
 first_more : (fs : List Fact) (f : Fact) (n : ℕ) → n ≡ max (depth fs) f.square
-    → find (λ g. g.square == n) (fs ++ f ∷ []) ≡ cond (is_some (find (λ g. g.square == depth fs) fs) && nat_le f.square (depth fs)) (find (λ g. g.square == depth fs) fs) (Some f)
+    → find (λ g. g.square == n) (fs ++ f ∷ []) ≡ cond (is_some (find (λ g. g.square == depth fs) fs) && nat_le f.square (depth fs))
+    (find (λ g. g.square == depth fs) fs) (Some f)
 first_more [] f n e =
     let same : (f.square == n) ≡ true = grind (arith, nat_tests) in
     cond-true (f.square == n) (Some f) None same
@@ -104,7 +106,9 @@ deepest_more fs f =
     ap (option_map (λ g. g.point)) (first_more fs f (depth (fs ++ f ∷ [])) (squares_more fs f))
     ∙ mapped (find (λ g. g.square == depth fs) fs) (nat_le f.square (depth fs)) f
   where
-    mapped : (o : Option Fact) (b : Bool) (f : Fact) → option_map (λ (g : Fact). g.point) (cond (is_some o && b) o (Some f)) ≡ cond (is_some (option_map (λ (g : Fact). g.point) o) && b) (option_map (λ (g : Fact). g.point) o) (Some f.point)
+    mapped : (o : Option Fact) (b : Bool) (f : Fact)
+        → option_map (λ (g : Fact). g.point) (cond (is_some o && b) o (Some f)) ≡ cond (is_some (option_map (λ (g : Fact). g.point) o) && b)
+        (option_map (λ (g : Fact). g.point) o) (Some f.point)
     mapped None b f = refl
     mapped (Some o) true f = refl
     mapped (Some o) false f = refl
@@ -135,5 +139,6 @@ measures_more fs f =
     let e = counts_more (λ g. is_end g.left) fs f in
     let j = counts_more (λ g. is_junction g.left) fs f in
     let o : sum_by (λ (g : Fact). g.exposed) (fs ++ f ∷ []) ≡ sum_by (λ (g : Fact). g.exposed) fs + f.exposed = sum_by_push (λ g. g.exposed) fs f in
-    let t : list_any (λ g. g.rim) (fs ++ f ∷ []) ≡ (list_any (λ g. g.rim) fs || f.rim) = list_any-append (λ g. g.rim) fs (f ∷ []) ∙ ap (λ b. list_any (λ g. g.rim) fs || b) (or-false f.rim) in
+    let t : list_any (λ g. g.rim) (fs ++ f ∷ []) ≡ (list_any (λ g. g.rim) fs || f.rim) = list_any-append (λ g. g.rim) fs (f ∷ [])
+    ∙ ap (λ b. list_any (λ g. g.rim) fs || b) (or-false f.rim) in
     λ i. record { area = n i; x = x i; y = y i; z = z i; depth = d i; deepest = p i; skeleton = s i; ends = e i; junctions = j i; exposed = o i; touches = t i }

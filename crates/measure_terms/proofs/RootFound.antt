@@ -26,13 +26,16 @@ root_is s r h =
     let high = h.high in
     let pass : is_below_half s r ≡ true = grind (arith, nat_tests, high) in
     let few = small_root s r h in
-    sym (ap (λ o. unwrap_or o 0) (first_found (is_below_half s) 0 (1000 * s + 1) r (omega arith) (omega (arith, few)) pass (λ m _ l. let low = h.low m l in grind (arith, nat_tests, low))))
+    sym (ap (λ o. unwrap_or o 0)
+    (first_found (is_below_half s) 0 (1000 * s + 1) r (omega arith) (omega (arith, few)) pass
+    (λ m _ l. let low = h.low m l in grind (arith, nat_tests, low))))
 
 -- half the whole root, rounded up
 pub root_from_whole : (s w r : ℕ) → w * w ≤ 4000000 * s → 4000000 * s < (w + 1) * (w + 1) → r ≡ (w + 1) / 2 → IsRoot s r
 root_from_whole s w r low high e = record {
   low = λ m l. let h : (2 * m + 1) * (2 * m + 1) ≤ w * w = mul-le (2 * m + 1) (2 * m + 1) w w (omega arith) (omega arith) in omega (arith, low, h);
-  high = let h : (w + 1) * (w + 1) ≤ (2 * r + 1) * (2 * r + 1) = mul-le (w + 1) (w + 1) (2 * r + 1) (2 * r + 1) (omega arith) (omega arith) in omega (arith, high, h);
+  high = let h : (w + 1) * (w + 1) ≤ (2 * r + 1) * (2 * r + 1) = mul-le (w + 1) (w + 1) (2 * r + 1) (2 * r + 1) (omega arith) (omega arith) in
+      omega (arith, high, h);
 }
 
 -- ---- of quotients
@@ -55,7 +58,9 @@ quotient_root_is s t r some h =
     let high = h.high in
     let pass : is_quotient_below_half s t r ≡ true = grind (arith, nat_tests, high) in
     let few = small_quotient_root s t r some h in
-    sym (ap (λ o. unwrap_or o 0) (first_found (is_quotient_below_half s t) 0 (1000 * s + 1) r (omega arith) (omega (arith, few)) pass (λ m _ l. let low = h.low m l in grind (arith, nat_tests, low))))
+    sym (ap (λ o. unwrap_or o 0)
+    (first_found (is_quotient_below_half s t) 0 (1000 * s + 1) r (omega arith) (omega (arith, few)) pass
+    (λ m _ l. let low = h.low m l in grind (arith, nat_tests, low))))
 
 -- half the whole root of the quotient rounded down, rounded up
 pub quotient_root_from_whole : (s t q w r : ℕ) → 0 < t → q ≡ 4000000 * s / t → w * w ≤ q → q < (w + 1) * (w + 1) → r ≡ (w + 1) / 2 → IsQuotientRoot s t r

@@ -29,7 +29,8 @@ no_elements T none = record {
 }
 
 -- an element that is not in the set
-pub one_more : {A : Type 0} (T U : A → Type 0) (x : A) (n : ℕ) → (T x → ⊥) → ((y : A) → T y → U y) → U x → ((y : A) → U y → T y ⊎ (x ≡ y)) → IsSizeOf T n → IsSizeOf U (n + 1)
+pub one_more : {A : Type 0} (T U : A → Type 0) (x : A) (n : ℕ) → (T x → ⊥) → ((y : A) → T y → U y) → U x → ((y : A) → U y → T y ⊎ (x ≡ y)) → IsSizeOf T n
+    → IsSizeOf U (n + 1)
 one_more T U x n new old here only h = record {
   elements = x ∷ h.elements;
   only = All-cons U x h.elements here (All-weaker T U old h.elements h.only);
@@ -42,7 +43,8 @@ one_more T U x n new old here only h = record {
 
 listed_more : {A : Type 0} (T : A → Type 0) (us : List A) (n : ℕ) → AllPairs (λ x y. x ≢ y) us → ((x : A) → Contains us x → T x → ⊥) → IsSizeOf T n
     → IsSizeOf (λ x. T x ⊎ Contains us x) (n + length us)
-listed_more T [] n a apart h = rw (add-zero n) (same_size T (λ x. T x ⊎ Contains [] x) n (λ x t. inl t) (λ x u. elim u [ inl t ↦ t | inr c ↦ absurd (let l = c.1 in omega (arith, l)) ]) h)
+listed_more T [] n a apart h =
+    rw (add-zero n) (same_size T (λ x. T x ⊎ Contains [] x) n (λ x t. inl t) (λ x u. elim u [ inl t ↦ t | inr c ↦ absurd (let l = c.1 in omega (arith, l)) ]) h)
 listed_more T (u ∷ us) n a apart h =
     let rest = listed_more T us n (λ i j d l m. a (suc i) (suc j) d (omega (arith, l)) (omega (arith, m))) (λ x c. apart x (later_in u us x c)) h in
     let e : n + length us + 1 ≡ n + length (u ∷ us) = omega arith in
@@ -54,7 +56,8 @@ listed_more T (u ∷ us) n a apart h =
     rest)
 
 -- two sets without a common element
-pub both_sizes : {A : Type 0} (T U V : A → Type 0) (m n : ℕ) → ((x : A) → T x → U x → ⊥) → ((x : A) → T x → V x) → ((x : A) → U x → V x) → ((x : A) → V x → T x ⊎ U x)
+pub both_sizes : {A : Type 0} (T U V : A → Type 0) (m n : ℕ) → ((x : A) → T x → U x → ⊥) → ((x : A) → T x → V x) → ((x : A) → U x → V x)
+    → ((x : A) → V x → T x ⊎ U x)
     → IsSizeOf T m → IsSizeOf U n → IsSizeOf V (m + n)
 both_sizes {A} T U V m n apart left right only h k =
     let us = k.elements in
@@ -82,7 +85,8 @@ in_map f xs x c =
     (c.0, omega (arith, l, long), get_or-map f xs c.0 x (f x) l ∙ ap f c.2)
 
 -- a set that has one element for each of another
-pub image_size : {A B : Type 0} (f : A → B) (T : A → Type 0) (U : B → Type 0) (n : ℕ) → ((x y : A) → f x ≡ f y → x ≡ y) → ((x : A) → T x → U (f x)) → ((y : B) → U y → (x : A) × T x × (f x ≡ y))
+pub image_size : {A B : Type 0} (f : A → B) (T : A → Type 0) (U : B → Type 0) (n : ℕ) → ((x y : A) → f x ≡ f y → x ≡ y) → ((x : A) → T x → U (f x))
+    → ((y : B) → U y → (x : A) × T x × (f x ≡ y))
     → IsSizeOf T n → IsSizeOf U n
 image_size f T U n one to back h = record {
   elements = map f h.elements;

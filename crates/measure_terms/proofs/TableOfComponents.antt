@@ -25,7 +25,8 @@ use Rattle.measure_terms.proofs.ComponentMeasures.{measures_are}
 
 -- ---- the number of components
 
-greatest_at_more : (x : ℕ) (xs : List ℕ) → (1 ≤ greatest xs → (i : ℕ) × (i < length xs) × (get_or xs i 0 ≡ greatest xs)) → 1 ≤ greatest (x ∷ xs) → (i : ℕ) × (i < length (x ∷ xs)) × (get_or (x ∷ xs) i 0 ≡ greatest (x ∷ xs))
+greatest_at_more : (x : ℕ) (xs : List ℕ) → (1 ≤ greatest xs → (i : ℕ) × (i < length xs) × (get_or xs i 0 ≡ greatest xs)) → 1 ≤ greatest (x ∷ xs)
+    → (i : ℕ) × (i < length (x ∷ xs)) × (get_or (x ∷ xs) i 0 ≡ greatest (x ∷ xs))
 greatest_at_more x xs rest some =
     let split : (greatest xs ≤ x) ⊎ (x < greatest xs) = grind arith in
     elim split [
@@ -69,11 +70,16 @@ no_fewer X labels (suc n) names =
 box_has : (X : Picture) (p : Point) → Object X p → Contains (box_points X.sides) p
 box_has X p o =
     let inside = (and_parts (in_box X.sides p) _ o).0 in
-    let l = raster_below X.sides p inside in
-    (raster_number X.sides p, omega (arith, length-box_points X.sides, l), get_or-box_points X.sides (raster_number X.sides p) p l ∙ raster_point-raster_number X.sides p inside)
+    let l = raster_below X.sides p inside in (
+      raster_number X.sides p,
+      omega (arith, length-box_points X.sides, l),
+      get_or-box_points X.sides (raster_number X.sides p) p l
+          ∙ raster_point-raster_number X.sides p inside,
+    )
 
 -- a component has a point
-some_point : (X : Picture) (labels : List ℕ) (n k : ℕ) → NamesParts Near (Object X) n (label_of X labels) → k < n → (p : Point) × Contains (component X labels (k + 1)) p
+some_point : (X : Picture) (labels : List ℕ) (n k : ℕ) → NamesParts Near (Object X) n (label_of X labels) → k < n
+    → (p : Point) × Contains (component X labels (k + 1)) p
 some_point X labels n k names l =
     let u = names.used (k + 1) (omega arith) (omega arith) in
     let e = u.2 in
@@ -91,7 +97,8 @@ some_measures object squares left labels (q ∷ ps) p c = measures_are object sq
 pub table_length : (X left : Picture) (squares : List ℕ) (table : List Measures) → (h : IsTable X squares left table) → length table ≡ greatest h.labels
 table_length X left squares table h = ap length h.rows ∙ length-rows (greatest h.labels) (facts X squares left h.labels)
 
-pub table_measures : (X left : Picture) (squares : List ℕ) (table : List Measures) → left.sides ≡ X.sides → IsTable X squares left table → MeasuresComponents X squares left table
+pub table_measures : (X left : Picture) (squares : List ℕ) (table : List Measures) → left.sides ≡ X.sides → IsTable X squares left table
+    → MeasuresComponents X squares left table
 table_measures X left squares table s h =
     let labels = h.labels in
     let fs = facts X squares left labels in
@@ -105,14 +112,17 @@ table_measures X left squares table s h =
       all = subst (λ (m : ℕ). NamesParts Near (Object X) m (label_of X labels)) same names;
       each = λ k d l.
           let some = some_point X labels n k names (omega (arith, same, l)) in
-          let row = ap (λ ms. get_or ms k d) h.rows ∙ row_is (greatest labels) fs k d (omega (arith, len, l)) ∙ ap measures_of (facts_are X squares left X labels (k + 1) s (omega arith) h.named) in
+          let row = ap (λ ms. get_or ms k d) h.rows ∙ row_is (greatest labels) fs k d (omega (arith, len, l))
+          ∙ ap measures_of (facts_are X squares left X labels (k + 1) s (omega arith) h.named) in
           let m = some_measures X squares left labels (component X labels (k + 1)) some.0 some.1 in
-          let m2 = subst (λ (sides : List ℕ). AreMeasuresOf X (λ q. get_or squares (raster_number sides q) 0) left (component X labels (k + 1)) (measures_of (map (fact X squares left labels) (component X labels (k + 1))))) s m in
+          let m2 = subst (λ (sides : List ℕ). AreMeasuresOf X (λ q. get_or squares (raster_number sides q) 0) left (component X labels (k + 1))
+          (measures_of (map (fact X squares left labels) (component X labels (k + 1))))) s m in
           subst (λ (x : Measures). AreMeasuresOf X (λ q. get_or squares (raster_number X.sides q) 0) left (component X labels (k + 1)) x) (sym row) m2;
     }
 
 -- the measures are told with the labels of the table
-pub labels_kept : (X left : Picture) (squares : List ℕ) (table : List Measures) (s : left.sides ≡ X.sides) (h : IsTable X squares left table) → (table_measures X left squares table s h).labels ≡ h.labels
+pub labels_kept : (X left : Picture) (squares : List ℕ) (table : List Measures) (s : left.sides ≡ X.sides) (h : IsTable X squares left table)
+    → (table_measures X left squares table s h).labels ≡ h.labels
 unfolding table_measures
 labels_kept X left squares table s h = refl
 
@@ -127,18 +137,21 @@ has_label X labels k p c =
     record { inside = (and_parts (in_box X.sides p) _ b.1).0; label = grind (arith, nat_tests) }
 
 -- and a point with the label is of the component
-pub in_component : (X : Picture) (labels : List ℕ) (k : ℕ) (p : Point) → LabelsObject X labels → HasLabel X.sides labels (k + 1) p → Contains (component X labels (k + 1)) p
+pub in_component : (X : Picture) (labels : List ℕ) (k : ℕ) (p : Point) → LabelsObject X labels → HasLabel X.sides labels (k + 1) p
+    → Contains (component X labels (k + 1)) p
 in_component X labels k p named h =
     let e = h.label in
     let t : (label_of X labels p == k + 1) ≡ true = grind (arith, nat_tests) in
-    let filled = seen X labels (k + 1) (raster_number X.sides p) (omega arith) t (named.background (raster_number X.sides p) (raster_below X.sides p h.inside)) in
+    let filled = seen X labels (k + 1) (raster_number X.sides p) (omega arith) t (named.background (raster_number X.sides p) (raster_below X.sides p h.inside))
+    in
     let object = ap (at X) (sym (raster_point-raster_number X.sides p h.inside)) ∙ filled in
     Contains-filter (λ q. label_of X labels q == k + 1) (object_points X) p (Contains-filter (at X) (box_points X.sides) p (box_has X p object) object) t
 
 -- the Feret diameters by the labels of a table are those of the components
-pub ferets_measure : (X left : Picture) (squares : List ℕ) (table : List Measures) (ferets : List Feret) → (h : IsTable X squares left table) → AreFerets X.sides h.labels (greatest h.labels) ferets
-    → FeretsComponents X h.labels (length table) ferets
-ferets_measure X left squares table ferets h f =
+pub ferets_measure : (square : Point → Point → ℕ) (X left : Picture) (squares : List ℕ) (table : List Measures) (ferets : List Feret)
+    → (h : IsTable X squares left table)
+    → AreFerets square X.sides h.labels (greatest h.labels) ferets → FeretsComponents square X h.labels (length table) ferets
+ferets_measure square X left squares table ferets h f =
     let labels = h.labels in
     let fs = facts X squares left labels in
     let n = h.named.parts.0 in
@@ -149,13 +162,15 @@ ferets_measure X left squares table ferets h f =
       each = λ k d l.
           let some = some_point X labels n k names (omega (arith, same, l)) in
           let one = f.each k d some.0 (omega (arith, len, l)) (has_label X labels k some.0 some.1) in
-          same_feret X.sides (HasLabel X.sides labels (k + 1)) (Contains (component X labels (k + 1))) (get_or ferets k d) (λ p. in_component X labels k p h.named) (has_label X labels k) one;
+          same_feret square X.sides (HasLabel X.sides labels (k + 1)) (Contains (component X labels (k + 1))) (get_or ferets k d)
+          (λ p. in_component X labels k p h.named) (has_label X labels k) one;
     }
 
 -- ---- points
 
 -- each label up to the greatest is that of a point
-pub some_of_labels : (X : Picture) (labels : List ℕ) (k : ℕ) → LabelsObject X labels → k < greatest labels → (p : Point) × Contains (component X labels (k + 1)) p
+pub some_of_labels : (X : Picture) (labels : List ℕ) (k : ℕ) → LabelsObject X labels → k < greatest labels
+    → (p : Point) × Contains (component X labels (k + 1)) p
 some_of_labels X labels k named l =
     let n = named.parts.0 in
     let names = named.parts.1 in

@@ -1,6 +1,7 @@
 -- The rows of the table, as the facts of the points come in.
 -- Laws of lists of facts; how the rows are kept does not matter here.
-use Rattle.std.proofs.Common.{◌≡◌, ◌≢◌, inl, inr, ◌+◌, ◌<◌, ◌≤◌, ℕ, true, false, List, [], ◌∷◌, ◌++◌, length, get_or, set, sym, ap, ◌∙◌, arith, length-set, get_or-set_other, get_or-set_same}
+use Rattle.std.proofs.Common.{◌≡◌, ◌≢◌, inl, inr, ◌+◌, ◌<◌, ◌≤◌, ℕ, true, false, List, [], ◌∷◌, ◌++◌, length, get_or, set, sym, ap, ◌∙◌, arith, length-set}
+use Rattle.std.proofs.Common.{get_or-set_other, get_or-set_same}
 use Rattle.std.specs.Prelude.{◌==◌}
 use Rattle.std.proofs.lemmas.Bool.{cond-true, cond-false, cases_eq}
 use Rattle.std.proofs.lemmas.Bool.Decides.{nat_tests}
@@ -16,7 +17,8 @@ use Rattle.measure_terms.specs.Tables.{rows}
 use Rattle.measure_terms.proofs.OneMore.{measures_more}
 
 -- the facts of one point more
-pub facts_more : (object : Picture) (squares : List ℕ) (left : Picture) (labels : List ℕ) (i : ℕ) → facts_below object squares left labels (i + 1) ≡ facts_below object squares left labels i ++ fact_at object squares left labels i ∷ []
+pub facts_more : (object : Picture) (squares : List ℕ) (left : Picture) (labels : List ℕ) (i : ℕ)
+    → facts_below object squares left labels (i + 1) ≡ facts_below object squares left labels i ++ fact_at object squares left labels i ∷ []
 facts_more object squares left labels i = map-range_with_len_more (fact_at object squares left labels) 0 i i (omega arith)
 
 pub length-facts : (object : Picture) (squares : List ℕ) (left : Picture) (labels : List ℕ) (i : ℕ) → length (facts_below object squares left labels i) ≡ i
@@ -51,16 +53,20 @@ background_row n fs f e = same_lists (rows n (fs ++ f ∷ [])) (rows n fs) (leng
     row_is n (fs ++ f ∷ []) k d m ∙ ap measures_of (other_more (k + 1) fs f (λ h. omega arith)) ∙ sym (row_is n fs k d m))
 
 -- a point of an object changes its row alone
-pub object_row : (n : ℕ) (fs : List Fact) (f : Fact) (j : ℕ) (d : Measures) → f.part ≡ j + 1 → j < n → rows n (fs ++ f ∷ []) ≡ set (rows n fs) j (measures_with (get_or (rows n fs) j d) f)
+pub object_row : (n : ℕ) (fs : List Fact) (f : Fact) (j : ℕ) (d : Measures) → f.part ≡ j + 1 → j < n
+    → rows n (fs ++ f ∷ []) ≡ set (rows n fs) j (measures_with (get_or (rows n fs) j d) f)
 object_row n fs f j d e lj =
     let row = measures_with (get_or (rows n fs) j d) f in
-    same_lists (rows n (fs ++ f ∷ [])) (set (rows n fs) j row) (length-rows n (fs ++ f ∷ []) ∙ sym (length-rows n fs) ∙ sym (length-set (rows n fs) j row)) (λ k c l.
+    same_lists (rows n (fs ++ f ∷ [])) (set (rows n fs) j row) (length-rows n (fs ++ f ∷ []) ∙ sym (length-rows n fs) ∙ sym (length-set (rows n fs) j row))
+    (λ k c l.
     let m : k < n = omega (arith, length-rows n (fs ++ f ∷ [])) in
     let here = row_is n (fs ++ f ∷ []) k c m in
     elim (cases_eq k j) [
       | inl same ↦ (
           let r = here ∙ ap measures_of (own_more (k + 1) fs f (omega arith)) ∙ measures_more (facts_of (k + 1) fs) f in
           let b : j < length (rows n fs) = omega (arith, length-rows n fs) in
-          r ∙ ap (λ m. measures_with m f) (ap (λ i. measures_of (facts_of (i + 1) fs)) same ∙ sym (row_is n fs j d lj)) ∙ sym (get_or-set_same (rows n fs) j row c b) ∙ ap (λ i. get_or (set (rows n fs) j row) i c) (sym same))
-      | inr other ↦ here ∙ ap measures_of (other_more (k + 1) fs f (λ h. other (omega arith))) ∙ sym (row_is n fs k c m) ∙ sym (get_or-set_other (rows n fs) j k row c other)
+          r ∙ ap (λ m. measures_with m f) (ap (λ i. measures_of (facts_of (i + 1) fs)) same ∙ sym (row_is n fs j d lj))
+          ∙ sym (get_or-set_same (rows n fs) j row c b) ∙ ap (λ i. get_or (set (rows n fs) j row) i c) (sym same))
+      | inr other ↦ here ∙ ap measures_of (other_more (k + 1) fs f (λ h. other (omega arith))) ∙ sym (row_is n fs k c m)
+          ∙ sym (get_or-set_other (rows n fs) j k row c other)
     ])

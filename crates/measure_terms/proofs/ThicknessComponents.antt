@@ -18,7 +18,8 @@ use Rattle.measure_terms.proofs.ComponentPoints.{seen, passed}
 part_of_box : (X : Picture) (labels ts : List ℕ) (k a n : ℕ) → 0 < k → a + n ≤ box_count X.sides
     → ((i : ℕ) → i < box_count X.sides → at X (raster_point X.sides i) ≡ false → get_or labels i 0 ≡ 0)
     → map (λ i. get_or ts i 0) (filter (λ i. get_or labels i 0 == k) (range_with_len a n))
-    ≡ map (λ p. get_or ts (raster_number X.sides p) 0) (filter (λ p. get_or labels (raster_number X.sides p) 0 == k) (filter (at X) (map (raster_point X.sides) (range_with_len a n))))
+    ≡ map (λ p. get_or ts (raster_number X.sides p) 0)
+    (filter (λ p. get_or labels (raster_number X.sides p) 0 == k) (filter (at X) (map (raster_point X.sides) (range_with_len a n))))
 part_of_box X labels ts k a zero some l back = refl
 part_of_box X labels ts k a (suc n) some l back =
     let r = part_of_box X labels ts k (a + 1) n some (omega arith) back in
@@ -47,16 +48,19 @@ thicknesses_are : (X : Picture) (labels ts : List ℕ) (k : ℕ) → 0 < k → L
     → map (λ i. get_or ts i 0) (labelled labels k (box_count X.sides)) ≡ map (λ p. get_or ts (raster_number X.sides p) 0) (component X labels k)
 thicknesses_are X labels ts k some named =
     part_of_box X labels ts k 0 (box_count X.sides) some (omega arith) named.background
-    ∙ ap (λ ps. map (λ p. get_or ts (raster_number X.sides p) 0) (filter (λ p. get_or labels (raster_number X.sides p) 0 == k) (filter (at X) ps))) (sym (box_points_are X.sides))
+    ∙ ap (λ ps. map (λ p. get_or ts (raster_number X.sides p) 0) (filter (λ p. get_or labels (raster_number X.sides p) 0 == k) (filter (at X) ps)))
+    (sym (box_points_are X.sides))
 
-pub sums_measure : (X : Picture) (labels : List ℕ) (n : ℕ) (ts : List ℕ) (ss : List ThicknessSum) → LabelsObject X labels → AreThicknessSums X.sides labels n ts ss → ThicknessSumsComponents X labels n ts ss
+pub sums_measure : (X : Picture) (labels : List ℕ) (n : ℕ) (ts : List ℕ) (ss : List ThicknessSum) → LabelsObject X labels
+    → AreThicknessSums X.sides labels n ts ss → ThicknessSumsComponents X labels n ts ss
 sums_measure X labels n ts ss named h = record {
   count = h.count;
   each = λ k d l. h.each k d l ∙ ap sum_of (thicknesses_are X labels ts (k + 1) (omega arith) named);
 }
 
 -- there is one list of sums
-pub one_list : (sides labels : List ℕ) (n : ℕ) (ts : List ℕ) (ss us : List ThicknessSum) → AreThicknessSums sides labels n ts ss → AreThicknessSums sides labels n ts us → ss ≡ us
+pub one_list : (sides labels : List ℕ) (n : ℕ) (ts : List ℕ) (ss us : List ThicknessSum) → AreThicknessSums sides labels n ts ss
+    → AreThicknessSums sides labels n ts us → ss ≡ us
 one_list sides labels n ts ss us a b =
     let m = a.count in
     same_lists ss us (m ∙ sym b.count) (λ k d l. a.each k d (omega (arith, m, l)) ∙ sym (b.each k d (omega (arith, m, l))))

@@ -52,6 +52,6 @@ pub record MeasuresComponents (X : Picture) (squares : List ℕ) (left : Picture
   pub each : (k : ℕ) (d : Measures) → k < length table
       → AreMeasuresOf X (λ p. slice_index squares (raster_number X.sides p)) left (component X labels (k + 1)) (slice_index_or table k d)
 
--- the first n components, by their labels, have these Feret diameters
-pub record FeretsComponents (X : Picture) (labels : List ℕ) (n : ℕ) (ferets : List Feret) : Type 0 where
-  pub each : (k : ℕ) (d : Feret) → k < n → IsFeret X.sides (Contains (component X labels (k + 1))) (slice_index_or ferets k d)
+-- the first n components, by their labels, have these Feret diameters, where `square` gives squared distances
+pub record FeretsComponents (square : Point → Point → ℕ) (X : Picture) (labels : List ℕ) (n : ℕ) (ferets : List Feret) : Type 0 where
+  pub each : (k : ℕ) (d : Feret) → k < n → IsFeret square X.sides (Contains (component X labels (k + 1))) (slice_index_or ferets k d)

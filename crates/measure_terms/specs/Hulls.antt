@@ -61,7 +61,8 @@ pub record GoesOnce (h : List Corner) (far : ℕ) : Type 0 where
   pub up : (i : ℕ) → i < far → IsBefore (vertex h i) (vertex h (i + 1))
   pub down : (i : ℕ) → far ≤ i → i < length h → 2 ≤ length h → IsBefore (end h i) (vertex h i)
 
--- the vertices of the convex hull of a set, from its first corner in raster order on, one round: all of the set lies left of each side or on it, and the round turns left at each
+-- the vertices of the convex hull of a set, from its first corner in raster order on, one round: all of the set lies left of each side or on it, and the round
+-- turns left at each
 -- vertex. Where there are fewer than three, the set lies on a line from its first to its last corner
 pub record IsHull (S : Corner → Type 0) (h : List Corner) : Type 0 where
   pub of : (i : ℕ) → i < length h → S (vertex h i)

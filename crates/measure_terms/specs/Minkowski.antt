@@ -8,19 +8,27 @@ use Rattle.measure_terms.specs.Components.{component}
 use Rattle.measure_terms.specs.Cells.{IsEulerNumber}
 use Rattle.measure_terms.specs.Crossings.{AreCrossings}
 
--- of a set of points: its Euler number, and how many steps lead out of it along axes, along diagonals of faces, and along diagonals of cubes
+-- of a set of points: its Euler number, and how many steps lead out of it that move along each axis, along each two of them, and along all three
 pub record Minkowski : Type 0 where
   pub euler : ℤ
-  pub axes : ℕ
-  pub faces : ℕ
-  pub cubes : ℕ
+  pub x : ℕ
+  pub y : ℕ
+  pub z : ℕ
+  pub xy : ℕ
+  pub xz : ℕ
+  pub yz : ℕ
+  pub xyz : ℕ
 
 -- these are the numbers of the set
 pub record IsMinkowski (S : Point → Type 0) (m : Minkowski) : Type 0 where
   pub euler : IsEulerNumber S m.euler
-  pub axes : AreCrossings S 1 m.axes
-  pub faces : AreCrossings S 2 m.faces
-  pub cubes : AreCrossings S 3 m.cubes
+  pub x : AreCrossings S 1 m.x
+  pub y : AreCrossings S 2 m.y
+  pub z : AreCrossings S 4 m.z
+  pub xy : AreCrossings S 3 m.xy
+  pub xz : AreCrossings S 5 m.xz
+  pub yz : AreCrossings S 6 m.yz
+  pub xyz : AreCrossings S 7 m.xyz
 
 -- those of the objects 1 to n of a box, each the points with its label
 pub record AreMinkowski (sides labels : List ℕ) (n : ℕ) (ms : List Minkowski) : Type 0 where

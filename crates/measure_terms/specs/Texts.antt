@@ -1,6 +1,7 @@
 -- The spelling of a table: a header, and a line for each object, its cells with commas between.
 -- A further column is one more piece of `header` and of `cells`, in the same place.
-use Rattle.std.specs.Prelude.{if◌then◌else◌, ℕ, ◌+◌, ◌/◌, ◌%◌, Bool, true, false, Option, Some, None, List, [], ◌∷◌, ◌++◌, codes, take, ℤ, nat_abs, cond, nat_eq}
+use Rattle.std.specs.Prelude.{if◌then◌else◌, ℕ, ◌+◌, ◌/◌, ◌%◌, Bool, true, false, Option, Some, None, List, [], ◌∷◌, ◌++◌, codes, take, ℤ, nat_abs, cond}
+use Rattle.std.specs.Prelude.{nat_eq}
 use Rattle.std.specs.List.{flat_map}
 use Rattle.std.specs.Fmt.{decimal, signed_decimal}
 use Rattle.shape_terms.specs.Points.{Point, coordinate}
@@ -44,9 +45,10 @@ box_text d m = each_axis whole d m.x.least m.y.least m.z.least ++ each_axis whol
 abbrev pub centre_text : ℕ → Measures → List ℕ
 centre_text d m = each_axis thousandths d (mean m.x.sum m.area) (mean m.y.sum m.area) (mean m.z.sum m.area)
 
--- the greatest distance to the background, and the point that has it first
-abbrev pub depth_text : ℕ → Measures → List ℕ
-depth_text d m = thousandths (root m.depth) ++ each_axis whole d (place m.deepest 0) (place m.deepest 1) (place m.deepest 2)
+-- the greatest distance to the background, and the point that has it first; empty cells where no distance is told
+abbrev pub depth_text : (told : Bool) → ℕ → Measures → List ℕ
+depth_text true d m = thousandths (root m.depth) ++ each_axis whole d (place m.deepest 0) (place m.deepest 1) (place m.deepest 2)
+depth_text false d m = codes "," ++ each_axis (λ n. codes ",") d 0 0 0
 
 -- the points left
 abbrev pub skeleton_text : Measures → List ℕ
@@ -65,11 +67,12 @@ abbrev pub size_text : ℕ → Measures → List ℕ
 size_text d m = whole m.area ++ (box_text d m ++ centre_text d m)
 
 -- how deep it is, what is left of it, and whether it may go on outside the box
-abbrev pub form_text : ℕ → Measures → List ℕ
-form_text d m = depth_text d m ++ (skeleton_text m ++ (touches_text m ++ sides_text d m))
+abbrev pub form_text : (told : Bool) → ℕ → Measures → List ℕ
+form_text told d m = depth_text told d m ++ (skeleton_text m ++ (touches_text m ++ sides_text d m))
 
-abbrev pub cells : ℕ → Measures → List ℕ
-cells d m = size_text d m ++ form_text d m
+-- all of them, with or without distances
+abbrev pub cells : (told : Bool) → ℕ → Measures → List ℕ
+cells told d m = size_text d m ++ form_text told d m
 
 -- further columns of a table: their names, each behind a comma, and their cells in the row with a place, from 0 on
 pub record Columns : Type 0 where
@@ -80,13 +83,13 @@ abbrev pub no_columns : Columns
 no_columns = record { names = []; cells = λ i. [] }
 
 -- the row with a place, from 0 on: the number of its object, from 1 on, and all cells
-abbrev pub row_text : (d : ℕ) → Columns → (i : ℕ) → Measures → List ℕ
-row_text d more i m = decimal (i + 1) ++ (cells d m ++ (more.cells i ++ codes "\n"))
+abbrev pub row_text : (told : Bool) (d : ℕ) → Columns → (i : ℕ) → Measures → List ℕ
+row_text told d more i m = decimal (i + 1) ++ (cells told d m ++ (more.cells i ++ codes "\n"))
 
 -- the rows from a place on
-abbrev pub rows_text : (d : ℕ) → Columns → (i : ℕ) → List Measures → List ℕ
-rows_text d more i [] = []
-rows_text d more i (m ∷ ms) = row_text d more i m ++ rows_text d more (i + 1) ms
+abbrev pub rows_text : (told : Bool) (d : ℕ) → Columns → (i : ℕ) → List Measures → List ℕ
+rows_text told d more i [] = []
+rows_text told d more i (m ∷ ms) = row_text told d more i m ++ rows_text told d more (i + 1) ms
 
 -- ---- the whole
 
@@ -99,6 +102,6 @@ header false = codes "object,voxels,x0,y0,z0,x1,y1,z1,x,y,z,radius,cx,cy,cz,skel
 abbrev pub header_line : ℕ → Columns → List ℕ
 header_line d more = header (nat_eq d 2) ++ (more.names ++ codes "\n")
 
--- the table of a picture of d axes with these measures and further columns
-abbrev pub table_text : ℕ → Columns → List Measures → List ℕ
-table_text d more ms = header_line d more ++ rows_text d more 0 ms
+-- the table of a picture of d axes with these measures and further columns, with or without distances
+abbrev pub table_text : (told : Bool) → ℕ → Columns → List Measures → List ℕ
+table_text told d more ms = header_line d more ++ rows_text told d more 0 ms

@@ -46,7 +46,8 @@ pub record AreThicknessSums (sides labels : List ℕ) (n : ℕ) (thicknesses : L
 -- the sums of the first n components of a picture, by their labels
 pub record ThicknessSumsComponents (X : Picture) (labels : List ℕ) (n : ℕ) (thicknesses : List ℕ) (ss : List ThicknessSum) : Type 0 where
   pub count : length ss ≡ n
-  pub each : (k : ℕ) (d : ThicknessSum) → k < n → slice_index_or ss k d ≡ sum_of (map (λ p. slice_index thicknesses (raster_number X.sides p)) (component X labels (k + 1)))
+  pub each : (k : ℕ) (d : ThicknessSum) → k < n
+      → slice_index_or ss k d ≡ sum_of (map (λ p. slice_index thicknesses (raster_number X.sides p)) (component X labels (k + 1)))
 
 -- ---- what a table tells of an object
 
@@ -59,7 +60,8 @@ pub record IsMeanDiameter (s : ThicknessSum) (m : ℕ) : Type 0 where
 abbrev pub mean_diameter : ThicknessSum → ℕ
 mean_diameter s = (2 * s.diameters + s.count) / (2 * s.count)
 
--- r is the standard deviation of the diameters in thousandths, rounded to nearest, and a half up: the square of it is the mean of their squares less the square of their mean
+-- r is the standard deviation of the diameters in thousandths, rounded to nearest, and a half up: the square of it is the mean of their squares less the square
+-- of their mean
 pub record IsDeviation (s : ThicknessSum) (r : ℕ) : Type 0 where
   pub low : (m : ℕ) → m < r → (2 * m + 1) * (2 * m + 1) * (s.count * s.count) + 4 * (s.diameters * s.diameters) ≤ 4 * (s.count * s.squares)
   pub high : 4 * (s.count * s.squares) < (2 * r + 1) * (2 * r + 1) * (s.count * s.count) + 4 * (s.diameters * s.diameters)

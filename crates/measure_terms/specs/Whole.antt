@@ -31,7 +31,8 @@ solid_numbers pieces background m =
 
 -- of a volume
 abbrev pub solid_whole : (points pieces background : ℕ) → Minkowski → List ℕ
-solid_whole points pieces background m = codes "voxels,pieces,pores,tunnels,euler,surface\n" ++ (decimal points ++ (solid_numbers pieces background m ++ codes "\n"))
+solid_whole points pieces background m = codes "voxels,pieces,pores,tunnels,euler,surface\n"
+    ++ (decimal points ++ (solid_numbers pieces background m ++ codes "\n"))
 
 abbrev pub whole_text : (d points pieces background : ℕ) → Minkowski → List ℕ
 whole_text d points pieces background m = if d == 2 then flat_whole points pieces background m else solid_whole points pieces background m

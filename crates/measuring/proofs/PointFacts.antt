@@ -16,7 +16,8 @@ use Rattle.shape_terms.specs.Adjacency.{moved, near_steps, near_point, near_poin
 use Rattle.shape_terms.proofs.Boxes.{in_box_coordinate, abs_is}
 
 -- a coordinate of a point of the box is a small natural
-pub place_small : (greatest : ℤ) (ns p : Point) (k : ℕ) (r : ℤ) → AreSides greatest ns → greatest ≤ℤ pos most_flat → IsTrue (in_box (sides_of ns) p) → k < length ns → r ≡ coordinate p k → (pos 0 ≤ℤ r) × (nat_abs r < most_coordinate)
+pub place_small : (greatest : ℤ) (ns p : Point) (k : ℕ) (r : ℤ) → AreSides greatest ns → greatest ≤ℤ pos most_flat → IsTrue (in_box (sides_of ns) p)
+    → k < length ns → r ≡ coordinate p k → (pos 0 ≤ℤ r) × (nat_abs r < most_coordinate)
 place_small g ns p k r a most h l e =
     let c = in_box_coordinate ns p g a h k l in
     let low : pos 0 ≤ℤ r = rw e c.0 in
@@ -68,11 +69,13 @@ pub side_is : (ns : Point) (k : ℕ) → get_or (sides_of ns) k 0 ≡ nat_abs (c
 side_is ns k = ListN.get_or-map nat_abs ns k (pos 0)
 
 range_more : (k : ℕ) → range_with_len 0 (k + 1) ≡ range_with_len 0 k ++ k ∷ []
-range_more k = sym (map-id (range_with_len 0 (k + 1))) ∙ map-range_with_len_more (λ x. x) 0 k k (omega arith) ∙ ap (λ t. t ++ k ∷ []) (map-id (range_with_len 0 k))
+range_more k = sym (map-id (range_with_len 0 (k + 1))) ∙ map-range_with_len_more (λ x. x) 0 k k (omega arith)
+    ∙ ap (λ t. t ++ k ∷ []) (map-id (range_with_len 0 k))
 
 -- one axis more
 pub axis_more : (f : ℕ → Bool) (k : ℕ) → list_any f (range_with_len 0 (k + 1)) ≡ (list_any f (range_with_len 0 k) || f k)
-axis_more f k = ap (list_any f) (range_more k) ∙ list_any-append f (range_with_len 0 k) (k ∷ []) ∙ ap (λ b. list_any f (range_with_len 0 k) || b) (or_false (f k))
+axis_more f k = ap (list_any f) (range_more k) ∙ list_any-append f (range_with_len 0 k) (k ∷ [])
+    ∙ ap (λ b. list_any f (range_with_len 0 k) || b) (or_false (f k))
   where
     or_false : (b : Bool) → (b || false) ≡ b
     or_false true = refl

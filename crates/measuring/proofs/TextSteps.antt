@@ -1,6 +1,7 @@
 -- One row more of a table's text, and the digits of a raster number one after the other.
 -- Lists and numbers alone stand here.
-use Rattle.std.proofs.Common.{◌≡◌, ◌+◌, ◌-◌, ◌<◌, ◌≤◌, ◌/◌, ◌%◌, ℕ, suc, pos, List, [], ◌∷◌, ◌++◌, length, map, get_or, drop, refl, sym, ap, ◌∙◌, arith, append_assoc}
+use Rattle.std.proofs.Common.{◌≡◌, ◌+◌, ◌-◌, ◌<◌, ◌≤◌, ◌/◌, ◌%◌, Bool, ℕ, suc, pos, List, [], ◌∷◌, ◌++◌, length, map, get_or, drop, refl, sym, ap, ◌∙◌, arith}
+use Rattle.std.proofs.Common.{append_assoc}
 use Rattle.std.proofs.lemmas.List.{drop_more, drop_all, append-nil, get_or_past}
 use Rattle.shape_terms.specs.Points.{coordinate, raster_point}
 use Rattle.measure_terms.specs.Measures.{Measures}
@@ -8,19 +9,20 @@ use Rattle.measure_terms.specs.Texts.{Columns, row_text, rows_text}
 
 -- ---- rows
 
-pub row_step : {M : Type 0} (told : M → Measures) (all : List M) (d : ℕ) (more : Columns) (i : ℕ) (e : M) (old new whole : List ℕ) → i < length all → e ≡ get_or all i e
-    → new ≡ old ++ row_text d more i (told e) → old ++ rows_text d more i (map told (drop i all)) ≡ whole
-    → new ++ rows_text d more (i + 1) (map told (drop (i + 1) all)) ≡ whole
-row_step told all d more i e old new whole l is g w =
-    let h = g ∙ ap (λ m. old ++ row_text d more i (told m)) is in
-    let row = row_text d more i (told (get_or all i e)) in
-    let rest = rows_text d more (i + 1) (map told (drop (i + 1) all)) in
-    ap (λ t. t ++ rest) h ∙ append_assoc old row rest ∙ sym (ap (λ ms. old ++ rows_text d more i (map told ms)) (drop_more all i e l)) ∙ w
+pub row_step : {M : Type 0} (told : M → Measures) (all : List M) (tells : Bool) (d : ℕ) (more : Columns) (i : ℕ) (e : M) (old new whole : List ℕ)
+    → i < length all → e ≡ get_or all i e
+    → new ≡ old ++ row_text tells d more i (told e) → old ++ rows_text tells d more i (map told (drop i all)) ≡ whole
+    → new ++ rows_text tells d more (i + 1) (map told (drop (i + 1) all)) ≡ whole
+row_step told all tells d more i e old new whole l is g w =
+    let h = g ∙ ap (λ m. old ++ row_text tells d more i (told m)) is in
+    let row = row_text tells d more i (told (get_or all i e)) in
+    let rest = rows_text tells d more (i + 1) (map told (drop (i + 1) all)) in
+    ap (λ t. t ++ rest) h ∙ append_assoc old row rest ∙ sym (ap (λ ms. old ++ rows_text tells d more i (map told ms)) (drop_more all i e l)) ∙ w
 
-pub row_last : {M : Type 0} (told : M → Measures) (all : List M) (d : ℕ) (more : Columns) (i : ℕ) (old whole : List ℕ) → length all ≤ i
-    → old ++ rows_text d more i (map told (drop i all)) ≡ whole → old ≡ whole
-row_last told all d more i old whole l w =
-    sym (ap (λ ms. old ++ rows_text d more i (map told ms)) (drop_all i all l) ∙ append-nil old) ∙ w
+pub row_last : {M : Type 0} (told : M → Measures) (all : List M) (tells : Bool) (d : ℕ) (more : Columns) (i : ℕ) (old whole : List ℕ) → length all ≤ i
+    → old ++ rows_text tells d more i (map told (drop i all)) ≡ whole → old ≡ whole
+row_last told all tells d more i old whole l w =
+    sym (ap (λ ms. old ++ rows_text tells d more i (map told ms)) (drop_all i all l) ∙ append-nil old) ∙ w
 
 -- ---- digits
 

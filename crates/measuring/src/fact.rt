@@ -31,8 +31,8 @@ pub struct Fact<P: Point> {
     pub rim: bool,
 }
 
-// The coordinate of a point of the box, and 0 on an axis that the space does not have.
-pub(crate) fn place<P: Point>(sides: Sides<P>, p: P, k: usize) -> u32
+/// The coordinate of a point of the box, and 0 on an axis that the space does not have.
+pub fn place<P: Point>(sides: Sides<P>, p: P, k: usize) -> u32
     requires { IsTrue (in_box (sides_of (P.coords sides.lengths)) (P.coords p)) }
     ensures value { result ≡ nat_abs (coordinate (P.coords p) k) }
     ensures small { result < most_coordinate }

@@ -11,9 +11,9 @@ ghost use Rattle.measuring.specs.TellsTable.{TellsTable};
 use crate::fact::fact_of;
 use crate::row::Measures;
 use shape_adj::{Labels, Pairing, labels};
+use shape_cells::Squares;
 use shape_grid::Grid;
 use shape_space::NoMemory;
-use shape_squares::Squares;
 use std::alloc::Global;
 
 /// The table of a picture's objects.

@@ -1,8 +1,9 @@
 //! The text of a table: its header and its rows.
 //! A further column is one more piece of a row here, in the same place as in `Texts`.
-ghost use Rattle.std.specs.Prelude.{◌≡◌, ◌<◌, ◌≤◌, ◌++◌, ℕ, List, map, nat_abs, IfOk, OnOk};
+ghost use Rattle.std.specs.Prelude.{◌≡◌, ◌<◌, ◌≤◌, ◌++◌, ℕ, List, map, nat_abs, IfOk, OnOk, true, false};
 ghost use Rattle.std.specs.Option.{option_map};
 ghost use Rattle.shape_terms.specs.Points.{coordinate, sides_of, raster_point};
+ghost use Rattle.measure_terms.specs.Measures as Terms;
 ghost use Rattle.measure_terms.specs.Texts.{place, box_text, centre_text, depth_text, skeleton_text, touches_text, sides_text, size_text, form_text, cells, row_text, header, header_line, table_text};
 ghost use Rattle.measuring.specs.Told.{measures_told};
 
@@ -70,10 +71,21 @@ fn put_centre<P: Point>(m: &Measures, csv: &mut Csv) -> Result<(), NoMemory>
     )
 }
 
+// Puts an empty cell for each axis, and one before them.
+fn put_no_depth<P: Point>(csv: &mut Csv) -> Result<(), NoMemory>
+    ensures { (m : Terms.Measures) → OnOk result (csv.new ≡ csv.old ++ depth_text false P.DIM m) }
+{
+    csv.put(b",,,")?;
+    if P::DIM == 3 {
+        csv.put(b",")?;
+    }
+    Ok(())
+}
+
 // Puts the greatest distance to the background, and the first point that has it.
 fn put_depth<P: Point>(sides: Sides<P>, m: &Measures, csv: &mut Csv) -> Result<(), NoMemory>
     ensures { OnOk result (csv.new ≡ csv.old
-        ++ depth_text P.DIM (measures_told (sides_of (P.coords sides.lengths)) m.now)) }
+        ++ depth_text true P.DIM (measures_told (sides_of (P.coords sides.lengths)) m.now)) }
 {
     csv.thousandths(root(m.depth))?;
     csv.whole_axes::<P>(
@@ -81,6 +93,23 @@ fn put_depth<P: Point>(sides: Sides<P>, m: &Measures, csv: &mut Csv) -> Result<(
         deepest_place(sides, m.deepest, 1),
         deepest_place(sides, m.deepest, 2),
     )
+}
+
+// Puts both where distances are told, and else empty cells.
+fn put_depth_where<P: Point>(
+    told: bool,
+    sides: Sides<P>,
+    m: &Measures,
+    csv: &mut Csv,
+) -> Result<(), NoMemory>
+    ensures { OnOk result (csv.new ≡ csv.old
+        ++ depth_text told P.DIM (measures_told (sides_of (P.coords sides.lengths)) m.now)) }
+{
+    if told {
+        put_depth(sides, m, csv)
+    } else {
+        put_no_depth::<P>(csv)
+    }
 }
 
 // Puts how many points are left, and how many of these are ends and junctions.
@@ -124,11 +153,16 @@ fn put_size<P: Point>(m: &Measures, csv: &mut Csv) -> Result<(), NoMemory>
 }
 
 // Puts how deep an object is, what is left of it, and whether it may go on outside the box.
-fn put_form<P: Point>(sides: Sides<P>, m: &Measures, csv: &mut Csv) -> Result<(), NoMemory>
+fn put_form<P: Point>(
+    told: bool,
+    sides: Sides<P>,
+    m: &Measures,
+    csv: &mut Csv,
+) -> Result<(), NoMemory>
     ensures { OnOk result (csv.new ≡ csv.old
-        ++ form_text P.DIM (measures_told (sides_of (P.coords sides.lengths)) m.now)) }
+        ++ form_text told P.DIM (measures_told (sides_of (P.coords sides.lengths)) m.now)) }
 {
-    put_depth(sides, m, csv)?;
+    put_depth_where(told, sides, m, csv)?;
     put_skeleton(m, csv)?;
     put_touches(m, csv)?;
     put_sides::<P>(m, csv)?;
@@ -136,28 +170,34 @@ fn put_form<P: Point>(sides: Sides<P>, m: &Measures, csv: &mut Csv) -> Result<()
 }
 
 // Puts the cells of an object behind its number.
-fn put_cells<P: Point>(sides: Sides<P>, m: &Measures, csv: &mut Csv) -> Result<(), NoMemory>
+fn put_cells<P: Point>(
+    told: bool,
+    sides: Sides<P>,
+    m: &Measures,
+    csv: &mut Csv,
+) -> Result<(), NoMemory>
     ensures { OnOk result (csv.new ≡ csv.old
-        ++ cells P.DIM (measures_told (sides_of (P.coords sides.lengths)) m.now)) }
+        ++ cells told P.DIM (measures_told (sides_of (P.coords sides.lengths)) m.now)) }
 {
     put_size::<P>(m, csv)?;
-    put_form(sides, m, csv)?;
+    put_form(told, sides, m, csv)?;
     Ok(())
 }
 
 // Puts the row with a place.
 fn put_row<P: Point, C: Columns>(
+    told: bool,
     sides: Sides<P>,
     i: usize,
     m: &Measures,
     more: &C,
     csv: &mut Csv,
 ) -> Result<(), NoMemory>
-    ensures { OnOk result (csv.new ≡ csv.old ++ row_text P.DIM (C.columns more.now) i
+    ensures { OnOk result (csv.new ≡ csv.old ++ row_text told P.DIM (C.columns more.now) i
         (measures_told (sides_of (P.coords sides.lengths)) m.now)) }
 {
     csv.number(i as u128 + 1)?;
-    put_cells(sides, m, csv)?;
+    put_cells(told, sides, m, csv)?;
     more.put_cells(i, csv)?;
     csv.put(b"\n")?;
     Ok(())
@@ -185,22 +225,23 @@ fn put_header<P: Point, C: Columns>(more: &C, csv: &mut Csv) -> Result<(), NoMem
 }
 
 /// The text of the table of a picture's objects: a header, and a row for each of them, numbered from 1 on, with further columns
-/// behind.
+/// behind. Where no distance is told the cells of radii and of their points are empty.
 ///
 /// `NoMemory` comes where memory is wanted and there is none.
 pub fn table_text<P: Point, C: Columns>(
     alloc: Global,
+    told: bool,
     sides: Sides<P>,
     all: &[Measures],
     more: &C,
 ) -> Result<Vec<u8>, NoMemory>
-    ensures { IfOk result (λ text. text.items ≡ table_text P.DIM (C.columns more.now)
+    ensures { IfOk result (λ text. text.items ≡ table_text told P.DIM (C.columns more.now)
         (map (measures_told (sides_of (P.coords sides.lengths))) all.now)) }
 {
     let mut csv = Csv::new(alloc);
     put_header::<P, C>(more, &mut csv)?;
     for i in 0..all.len() {
-        put_row(sides, i, &all[i], more, &mut csv)?;
+        put_row(told, sides, i, &all[i], more, &mut csv)?;
     }
     Ok(csv.into_text())
 }

@@ -22,7 +22,8 @@ abbrev pub GoodSteps : {L S : Type 0} → Course L S → S → List L → Type 0
 GoodSteps c s [] = Unit {0}
 GoodSteps c s (l ∷ lines) = c.Claim s l × GoodSteps c (c.next s l) lines
 
-steps_from : {L S : Type 0} (c : Course L S) (s : S) (lines : List L) → ((k : ℕ) (l : L) → slice_get lines k ≡ Some l → c.Claim (after c.next s (take k lines)) l) → GoodSteps c s lines
+steps_from : {L S : Type 0} (c : Course L S) (s : S) (lines : List L)
+    → ((k : ℕ) (l : L) → slice_get lines k ≡ Some l → c.Claim (after c.next s (take k lines)) l) → GoodSteps c s lines
 steps_from c s [] h = tt
 steps_from c s (l ∷ lines) h = (h 0 l refl, steps_from c (c.next s l) lines (λ k m e. h (suc k) m e))
 
@@ -49,7 +50,8 @@ module _ (X : Picture) (contours : List Contour) (are : AreContours X contours) 
   claimed s l h = subst (λ cs. ListClaim cs s l) (contours_same X h.0 contours h.1 are) h.2
 
   -- good lines behind the heading, up to the end, list the pieces of all contours
-  list_all : (s : Standing) (lines : List Line) → GoodSteps (course X) (State.Listing s) (lines ++ Line.End ∷ []) → GoodFrom contours s (filter_map listed (lines ++ Line.End ∷ []))
+  list_all : (s : Standing) (lines : List Line) → GoodSteps (course X) (State.Listing s) (lines ++ Line.End ∷ [])
+      → GoodFrom contours s (filter_map listed (lines ++ Line.End ∷ []))
   list_all s [] g = claimed s Line.End g.0
   list_all s (Line.Listed l ∷ lines) g = (claimed s (Line.Listed l) g.0, list_all (after_line s l) lines g.1)
   list_all s (Line.Pieces sides ∷ lines) g = absurd (claimed s (Line.Pieces sides) g.0)
@@ -57,7 +59,8 @@ module _ (X : Picture) (contours : List Contour) (are : AreContours X contours) 
   list_all s (Line.End ∷ (l ∷ lines)) g = absurd g.1.0
 
   -- and there is no other line among them
-  only_listed : (s : Standing) (lines : List Line) → GoodSteps (course X) (State.Listing s) (lines ++ Line.End ∷ []) → lines ++ Line.End ∷ [] ≡ up_to_end (filter_map listed (lines ++ Line.End ∷ []))
+  only_listed : (s : Standing) (lines : List Line) → GoodSteps (course X) (State.Listing s) (lines ++ Line.End ∷ [])
+      → lines ++ Line.End ∷ [] ≡ up_to_end (filter_map listed (lines ++ Line.End ∷ []))
   only_listed s [] g = refl
   only_listed s (Line.Listed l ∷ lines) g = ap (λ ls. Line.Listed l ∷ ls) (only_listed (after_line s l) lines g.1)
   only_listed s (Line.Pieces sides ∷ lines) g = absurd (claimed s (Line.Pieces sides) g.0)
@@ -65,7 +68,8 @@ module _ (X : Picture) (contours : List Contour) (are : AreContours X contours) 
   only_listed s (Line.End ∷ (l ∷ lines)) g = absurd g.1.0
 
   -- so they tell facts of all contours
-  told_behind : (sides : Point) → sides ≡ map pos X.sides → (lines : List Line) → GoodSteps (course X) (State.Listing at_start) (lines ++ Line.End ∷ []) → AreTold X (Line.Pieces sides ∷ (lines ++ Line.End ∷ []))
+  told_behind : (sides : Point) → sides ≡ map pos X.sides → (lines : List Line) → GoodSteps (course X) (State.Listing at_start) (lines ++ Line.End ∷ [])
+      → AreTold X (Line.Pieces sides ∷ (lines ++ Line.End ∷ []))
   told_behind sides e lines g =
       let ls = filter_map listed (lines ++ Line.End ∷ []) in
       let good = list_all at_start lines g in
@@ -75,11 +79,13 @@ module _ (X : Picture) (contours : List Contour) (are : AreContours X contours) 
         contours_are = are;
         facts = facts_of ls;
         each = all_shown contours at_start ls good;
-        are = ap (λ p. Line.Pieces p ∷ (lines ++ Line.End ∷ [])) e ∙ ap (λ m. Line.Pieces (map pos X.sides) ∷ m) (only_listed at_start lines g ∙ ap up_to_end told);
+        are = ap (λ p. Line.Pieces p ∷ (lines ++ Line.End ∷ [])) e
+            ∙ ap (λ m. Line.Pieces (map pos X.sides) ∷ m) (only_listed at_start lines g ∙ ap up_to_end told);
       }
 
 module _ (X : Picture) where
-  some_contours : (s : Standing) (lines : List Line) → GoodSteps (course X) (State.Listing s) (lines ++ Line.End ∷ []) → (contours : List Contour) × AreContours X contours
+  some_contours : (s : Standing) (lines : List Line) → GoodSteps (course X) (State.Listing s) (lines ++ Line.End ∷ [])
+      → (contours : List Contour) × AreContours X contours
   some_contours s [] g = (g.0.0, g.0.1)
   some_contours s (l ∷ lines) g = (g.0.0, g.0.1)
 

@@ -32,7 +32,8 @@ abbrev pub pieces_of : List SplitLine → List Piece
 pieces_of [] = []
 pieces_of (SplitLine.Chain c n m ∷ lines) = []
 pieces_of (SplitLine.Gap t why ∷ lines) = pieces_of lines
-pieces_of (SplitLine.Piece b e t line ∷ lines) = record { first = b; last = e; axis = t; line = line; x = first_reason lines; y = second_reason lines } ∷ pieces_of lines
+pieces_of (SplitLine.Piece b e t line ∷ lines) = record { first = b; last = e; axis = t; line = line; x = first_reason lines; y = second_reason lines }
+    ∷ pieces_of lines
 
 -- what the lines tell of each contour: its chain, with the pieces behind it
 abbrev pub facts_of : List SplitLine → List SplitFact
@@ -57,7 +58,8 @@ pub record GoOn (points : List Point) (c m : ℕ) (pieces : List Piece) : Type 0
   pub piece : (k : ℕ) → k < m → IsPiece points (piece_at pieces k)
   pub refused : (k : ℕ) → k + 1 < m → IsRefusedPiece points (piece_at pieces k)
 
-one_before : (points : List Point) (c m : ℕ) (p : Piece) (pieces : List Piece) → p.first ≡ c → IsPiece points p → (0 < m → IsRefusedPiece points p) → (m ≡ 0 → p.last + 1 ≡ length points) → GoOn points (p.last + 1) m pieces → GoOn points c (suc m) (p ∷ pieces)
+one_before : (points : List Point) (c m : ℕ) (p : Piece) (pieces : List Piece) → p.first ≡ c → IsPiece points p → (0 < m → IsRefusedPiece points p)
+    → (m ≡ 0 → p.last + 1 ≡ length points) → GoOn points (p.last + 1) m pieces → GoOn points c (suc m) (p ∷ pieces)
 one_before points c m p pieces first is refused last h = record {
   count = (let n = h.count in omega arith);
   begins = λ l. first;
@@ -127,11 +129,13 @@ module _ (contours : List Contour) where
   abbrev points_at : Standing → List Point
   points_at s = (open_contour contours s).points
 
-  is_piece : (s : Standing) (b e t : ℕ) (line : Naive) (x y : Evidence) → IsNextPiece contours s b e t line → IsPiece (points_at s) (record { first = b; last = e; axis = t; line = line; x = x; y = y })
+  is_piece : (s : Standing) (b e t : ℕ) (line : Naive) (x y : Evidence) → IsNextPiece contours s b e t line
+      → IsPiece (points_at s) (record { first = b; last = e; axis = t; line = line; x = x; y = y })
   is_piece s b e t line x y h = record { rises = h.places.rises; within = h.places.within; axis = h.axis; naive = h.naive; sense = h.sense }
 
   -- it is the last one of its contour
-  is_last : (s : Standing) (b e t : ℕ) (line : Naive) (lines : List SplitLine) → GoodFrom contours s (SplitLine.Piece b e t line ∷ lines) → s.pieces + 1 ≡ s.declared → GoOn (points_at s) s.next (s.declared - s.pieces) (pieces_of (SplitLine.Piece b e t line ∷ lines))
+  is_last : (s : Standing) (b e t : ℕ) (line : Naive) (lines : List SplitLine) → GoodFrom contours s (SplitLine.Piece b e t line ∷ lines)
+      → s.pieces + 1 ≡ s.declared → GoOn (points_at s) s.next (s.declared - s.pieces) (pieces_of (SplitLine.Piece b e t line ∷ lines))
   is_last s b e t line lines g last =
       let h = g.0 in
       let none = ended (after_line s (SplitLine.Piece b e t line)) lines g.1 last in
@@ -139,10 +143,12 @@ module _ (contours : List Contour) where
       let p : Piece = record { first = b; last = e; axis = t; line = line; x = first_reason lines; y = second_reason lines } in
       subst (λ m. GoOn (points_at s) s.next m (p ∷ pieces_of lines)) one
       (subst (λ (l : List Piece). GoOn (points_at s) s.next 1 (p ∷ l)) (sym none)
-      (one_before (points_at s) s.next 0 p [] h.places.begins (is_piece s b e t line p.x p.y h) (λ l. absurd (omega arith)) (λ q. h.places.ends.0 last) (none_left (points_at s) (e + 1))))
+      (one_before (points_at s) s.next 0 p [] h.places.begins (is_piece s b e t line p.x p.y h) (λ l. absurd (omega arith)) (λ q. h.places.ends.0 last)
+      (none_left (points_at s) (e + 1))))
 
   -- the pieces that are still wanted go on from the last place that was given
-  pub rest : (s : Standing) (lines : List SplitLine) → GoodFrom contours s lines → s.pieces < s.declared → (0 < s.pieces → s.gaps ≡ 2) → GoOn (points_at s) s.next (s.declared - s.pieces) (pieces_of lines)
+  pub rest : (s : Standing) (lines : List SplitLine) → GoodFrom contours s lines → s.pieces < s.declared → (0 < s.pieces → s.gaps ≡ 2)
+      → GoOn (points_at s) s.next (s.declared - s.pieces) (pieces_of lines)
   rest s [] g l r = absurd (let f = g.full in omega arith)
   rest s (SplitLine.Chain c n m ∷ lines) g l r = absurd (let f : s.pieces ≡ s.declared = g.0.full in omega arith)
   rest s (SplitLine.Gap t why ∷ lines) g l r = absurd (let f = g.0.turn.few in let k = r g.0.turn.some in omega arith)
@@ -150,8 +156,10 @@ module _ (contours : List Contour) where
   rest s (SplitLine.Piece b e t line ∷ (SplitLine.Chain c n m ∷ lines)) g l r = is_last s b e t line (SplitLine.Chain c n m ∷ lines) g g.1.0.full
   rest s (SplitLine.Piece b e t line ∷ (SplitLine.Piece b2 e2 t2 line2 ∷ lines)) g l r = absurd (let k : 0 ≡ 2 = g.1.0.places.gaps (omega arith) in omega arith)
   rest s (SplitLine.Piece b e t line ∷ (SplitLine.Gap u why ∷ [])) g l r = absurd (let m = g.1.0.turn.more in let f = g.1.1.full in omega arith)
-  rest s (SplitLine.Piece b e t line ∷ (SplitLine.Gap u why ∷ (SplitLine.Chain c n m ∷ lines))) g l r = absurd (let m = g.1.0.turn.more in let f : s.pieces + 1 ≡ s.declared = g.1.1.0.full in omega arith)
-  rest s (SplitLine.Piece b e t line ∷ (SplitLine.Gap u why ∷ (SplitLine.Piece b2 e2 t2 line2 ∷ lines))) g l r = absurd (let k : 1 ≡ 2 = g.1.1.0.places.gaps (omega arith) in omega arith)
+  rest s (SplitLine.Piece b e t line ∷ (SplitLine.Gap u why ∷ (SplitLine.Chain c n m ∷ lines))) g l r =
+      absurd (let m = g.1.0.turn.more in let f : s.pieces + 1 ≡ s.declared = g.1.1.0.full in omega arith)
+  rest s (SplitLine.Piece b e t line ∷ (SplitLine.Gap u why ∷ (SplitLine.Piece b2 e2 t2 line2 ∷ lines))) g l r =
+      absurd (let k : 1 ≡ 2 = g.1.1.0.places.gaps (omega arith) in omega arith)
   rest s (SplitLine.Piece b e t line ∷ (SplitLine.Gap u why ∷ (SplitLine.Gap v why2 ∷ lines))) g l r =
       let h = g.0 in
       let gx = g.1.0 in
@@ -170,12 +178,17 @@ module _ (contours : List Contour) where
       }) (λ q. absurd (omega arith)) tail)
 
   -- a chain with the pieces behind it shows a shortest split of its contour
-  chain_shows : (s : Standing) (c : Crack) (n m : ℕ) (lines : List SplitLine) (h : IsNextChain contours s c n m) → GoodFrom contours (after_line s (SplitLine.Chain c n m)) lines
+  chain_shows : (s : Standing) (c : Crack) (n m : ℕ) (lines : List SplitLine) (h : IsNextChain contours s c n m)
+      → GoodFrom contours (after_line s (SplitLine.Chain c n m)) lines
       → SplitShows (record { start = c; points = h.points }) (record { start = c; points = n; pieces = pieces_of lines })
   chain_shows s c n m lines h g =
       let now = after_line s (SplitLine.Chain c n m) in
-      let here : points_at now ≡ h.points = ap (λ (k : Contour). k.points) (ap (λ i. slice_index_or contours i no_contour) (let q : s.begun + 1 - 1 ≡ s.begun = omega arith in q) ∙ get_or_from_slice_get contours s.begun (record { start = c; points = h.points }) no_contour h.next) in
-      let on : GoOn h.points 0 m (pieces_of lines) = subst (λ ps. GoOn ps 0 m (pieces_of lines)) here (subst (λ v. GoOn (points_at now) 0 v (pieces_of lines)) (let q : m - 0 ≡ m = omega arith in q) (rest now lines g h.some (λ k. absurd (omega arith)))) in
+      let here : points_at now ≡ h.points =
+      ap (λ (k : Contour). k.points) (ap (λ i. slice_index_or contours i no_contour) (let q : s.begun + 1 - 1 ≡ s.begun = omega arith in q)
+      ∙ get_or_from_slice_get contours s.begun (record { start = c; points = h.points }) no_contour h.next) in
+      let on : GoOn h.points 0 m (pieces_of lines) = subst (λ ps. GoOn ps 0 m (pieces_of lines)) here
+      (subst (λ v. GoOn (points_at now) 0 v (pieces_of lines)) (let q : m - 0 ≡ m = omega arith in q) (rest now lines g h.some (λ k. absurd (omega arith))))
+      in
       let are = whole_pieces h.points m (pieces_of lines) h.some (let f = h.few in let k = h.count in omega arith) on in
       record {
         start = refl;
@@ -193,5 +206,6 @@ module _ (contours : List Contour) where
   all_shown s (SplitLine.Gap t why ∷ lines) g = all_shown (after_line s (SplitLine.Gap t why)) lines g.1
   all_shown s (SplitLine.Chain c n m ∷ lines) g =
       let h = g.0 in
-      subst (λ cs. AllZip SplitShows cs (facts_of (SplitLine.Chain c n m ∷ lines))) (sym (drop_next contours s.begun (record { start = c; points = h.points }) h.next))
+      subst (λ cs. AllZip SplitShows cs (facts_of (SplitLine.Chain c n m ∷ lines)))
+      (sym (drop_next contours s.begun (record { start = c; points = h.points }) h.next))
       (chain_shows s c n m lines h g.1, all_shown (after_line s (SplitLine.Chain c n m)) lines g.1)

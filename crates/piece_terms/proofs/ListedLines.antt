@@ -13,13 +13,15 @@ abbrev pub told : List SplitLine → List SplitLine
 told lines = lines_of_pieces (pieces_of lines) ++ flat_map split_lines (facts_of lines)
 
 -- behind a piece that is not the last stand two lines
-behind_piece : (p : Piece) (pieces : List Piece) → 0 < length pieces → lines_of_pieces (p ∷ pieces) ≡ piece_line p ∷ (SplitLine.Gap 0 p.x ∷ (SplitLine.Gap 1 p.y ∷ lines_of_pieces pieces))
+behind_piece : (p : Piece) (pieces : List Piece) → 0 < length pieces
+    → lines_of_pieces (p ∷ pieces) ≡ piece_line p ∷ (SplitLine.Gap 0 p.x ∷ (SplitLine.Gap 1 p.y ∷ lines_of_pieces pieces))
 behind_piece p [] l = absurd (omega arith)
 behind_piece p (q ∷ pieces) l = refl
 
 module _ (contours : List Contour) where
   -- where a piece is wanted after another one, that one has both its lines
-  pub lines_told : (s : Standing) (lines : List SplitLine) → GoodFrom contours s lines → (s.pieces < s.declared → 0 < s.pieces → s.gaps ≡ 2) → lines ≡ told lines
+  pub lines_told : (s : Standing) (lines : List SplitLine) → GoodFrom contours s lines → (s.pieces < s.declared → 0 < s.pieces → s.gaps ≡ 2)
+      → lines ≡ told lines
   lines_told s [] g r = refl
   lines_told s (SplitLine.Chain c n m ∷ lines) g r =
       let now = after_line s (SplitLine.Chain c n m) in
@@ -30,11 +32,16 @@ module _ (contours : List Contour) where
   lines_told s (SplitLine.Gap t why ∷ lines) g r = absurd (let f = g.0.turn.few in let k = r g.0.turn.more g.0.turn.some in omega arith)
   lines_told s (SplitLine.Piece b e t line ∷ []) g r = refl
   lines_told s (SplitLine.Piece b e t line ∷ (SplitLine.Chain c n m ∷ lines)) g r =
-      ap (λ ls. SplitLine.Piece b e t line ∷ ls) (lines_told (after_line s (SplitLine.Piece b e t line)) (SplitLine.Chain c n m ∷ lines) g.1 (λ l k. absurd (let f : s.pieces + 1 ≡ s.declared = g.1.0.full in omega arith)))
-  lines_told s (SplitLine.Piece b e t line ∷ (SplitLine.Piece b2 e2 t2 line2 ∷ lines)) g r = absurd (let k : 0 ≡ 2 = g.1.0.places.gaps (omega arith) in omega arith)
+      ap (λ ls. SplitLine.Piece b e t line ∷ ls)
+      (lines_told (after_line s (SplitLine.Piece b e t line)) (SplitLine.Chain c n m ∷ lines) g.1
+      (λ l k. absurd (let f : s.pieces + 1 ≡ s.declared = g.1.0.full in omega arith)))
+  lines_told s (SplitLine.Piece b e t line ∷ (SplitLine.Piece b2 e2 t2 line2 ∷ lines)) g r =
+      absurd (let k : 0 ≡ 2 = g.1.0.places.gaps (omega arith) in omega arith)
   lines_told s (SplitLine.Piece b e t line ∷ (SplitLine.Gap u why ∷ [])) g r = absurd (let m = g.1.0.turn.more in let f = g.1.1.full in omega arith)
-  lines_told s (SplitLine.Piece b e t line ∷ (SplitLine.Gap u why ∷ (SplitLine.Chain c n m ∷ lines))) g r = absurd (let m = g.1.0.turn.more in let f : s.pieces + 1 ≡ s.declared = g.1.1.0.full in omega arith)
-  lines_told s (SplitLine.Piece b e t line ∷ (SplitLine.Gap u why ∷ (SplitLine.Piece b2 e2 t2 line2 ∷ lines))) g r = absurd (let k : 1 ≡ 2 = g.1.1.0.places.gaps (omega arith) in omega arith)
+  lines_told s (SplitLine.Piece b e t line ∷ (SplitLine.Gap u why ∷ (SplitLine.Chain c n m ∷ lines))) g r =
+      absurd (let m = g.1.0.turn.more in let f : s.pieces + 1 ≡ s.declared = g.1.1.0.full in omega arith)
+  lines_told s (SplitLine.Piece b e t line ∷ (SplitLine.Gap u why ∷ (SplitLine.Piece b2 e2 t2 line2 ∷ lines))) g r =
+      absurd (let k : 1 ≡ 2 = g.1.1.0.places.gaps (omega arith) in omega arith)
   lines_told s (SplitLine.Piece b e t line ∷ (SplitLine.Gap u why ∷ (SplitLine.Gap v why2 ∷ lines))) g r =
       let more : s.pieces + 1 < s.declared = g.1.0.turn.more in
       let s2 : Standing = record { begun = s.begun; declared = s.declared; pieces = s.pieces + 1; first = b; next = e + 1; gaps = 2 } in

@@ -27,7 +27,8 @@ abbrev pub IsHeading : Point → Line → Type 0
 IsHeading sides (Line.Pieces s) = s ≡ sides
 IsHeading sides _ = ⊥
 
--- the claim of a line behind the heading, where the picture has these contours: it is the next that lists their splits, or the end, where each has all its pieces
+-- the claim of a line behind the heading, where the picture has these contours: it is the next that lists their splits, or the end, where each has all its
+-- pieces
 abbrev pub ListClaim : List Contour → Standing → Line → Type 0
 ListClaim contours s (Line.Listed l) = IsNextLine contours s l
 ListClaim contours s Line.End = AllListed contours s

@@ -40,7 +40,8 @@ piece_lines sides facts = Line.Pieces sides ∷ (map (λ l. Line.Listed l) (flat
 
 -- ---- what they show
 
--- the crack and the number of points are those of the contour, and the pieces are a split with the fewest of all its splits: each is straight with its line, and every split has a break in the run of each but the last with its next point, which is not straight; no two of these runs share a step
+-- the crack and the number of points are those of the contour, and the pieces are a split with the fewest of all its splits: each is straight with its line,
+-- and every split has a break in the run of each but the last with its next point, which is not straight; no two of these runs share a step
 pub record SplitShows (contour : Contour) (fact : SplitFact) : Type 0 where
   pub start : fact.start ≡ contour.start
   pub count : fact.points ≡ length contour.points

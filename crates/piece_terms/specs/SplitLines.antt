@@ -8,7 +8,8 @@ use Rattle.shape_terms.specs.Contours.{Crack}
 use Rattle.shape_terms.specs.Traces.{Contour}
 use Rattle.shape_terms.specs.Covers.{Evidence, IsEvidence, arc}
 
--- the first crack of a contour with how many points and pieces it has; the first and the last place of a piece, with a line of an axis; and for an axis why a piece can't be longer
+-- the first crack of a contour with how many points and pieces it has; the first and the last place of a piece, with a line of an axis; and for an axis why a
+-- piece can't be longer
 pub data SplitLine : Type 0 where
   Chain : Crack → ℕ → ℕ → SplitLine
   Piece : ℕ → ℕ → ℕ → Naive → SplitLine
@@ -16,7 +17,8 @@ pub data SplitLine : Type 0 where
 
 -- ---- where the lines stand
 
--- how many contours were begun; and of the last of them, how many pieces its line gives, how many it was given, the first place of the last of these and the place after it, and how many gap lines came since
+-- how many contours were begun; and of the last of them, how many pieces its line gives, how many it was given, the first place of the last of these and the
+-- place after it, and how many gap lines came since
 pub record Standing : Type 0 where
   pub begun : ℕ
   pub declared : ℕ
@@ -58,7 +60,8 @@ pub record IsNextChain (contours : List Contour) (s : Standing) (c : Crack) (n m
   pub some : 1 ≤ m
   pub few : m ≤ n
 
--- a piece is still wanted, and the one before it has both its gap lines; in a contour of n points it begins at the place after that one, and ends at the last place exactly where it is the last piece
+-- a piece is still wanted, and the one before it has both its gap lines; in a contour of n points it begins at the place after that one, and ends at the last
+-- place exactly where it is the last piece
 pub record AreNextPlaces (n : ℕ) (s : Standing) (b e : ℕ) : Type 0 where
   pub more : s.pieces < s.declared
   pub gaps : 0 < s.pieces → s.gaps ≡ 2

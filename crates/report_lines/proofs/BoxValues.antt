@@ -29,12 +29,14 @@ module _ {A : Type 0} (sides : List ℕ) where
 
   -- one value for all points
   pub values_equal : (f : Point → A) (a : A) → ((p : Point) → f p ≡ a) → replicate (box_count sides) a ≡ values_of sides f
-  values_equal f a e = same_lists (replicate (box_count sides) a) (values_of sides f) (length-replicate (box_count sides) a ∙ sym (length-values_of f)) (λ k d l.
+  values_equal f a e = same_lists (replicate (box_count sides) a) (values_of sides f) (length-replicate (box_count sides) a ∙ sym (length-values_of f))
+      (λ k d l.
       let m : k < box_count sides = omega (arith, l, length-replicate (box_count sides) a) in
       get_or-replicate (box_count sides) k a d m ∙ sym (get_or-values_of f k d m ∙ e (raster_point sides k)))
 
   -- one value is changed
-  pub values_with : (f g : Point → A) (q : Point) (a : A) → IsTrue (in_box sides q) → g q ≡ a → ((p : Point) → p ≢ q → g p ≡ f p) → set (values_of sides f) (raster_number sides q) a ≡ values_of sides g
+  pub values_with : (f g : Point → A) (q : Point) (a : A) → IsTrue (in_box sides q) → g q ≡ a → ((p : Point) → p ≢ q → g p ≡ f p)
+      → set (values_of sides f) (raster_number sides q) a ≡ values_of sides g
   values_with f g q a inside there other =
       let n = raster_number sides q in
       let size = length-set (values_of sides f) n a ∙ length-values_of f in
@@ -43,7 +45,8 @@ module _ {A : Type 0} (sides : List ℕ) where
       sym (get_or-values_of g k d m ∙ elim (ℕ_discrete k n) [
         | yes e ↦
             ap g (ap (raster_point sides) e ∙ raster_point-raster_number sides q inside) ∙ there
-            ∙ sym (ap (λ j. get_or (set (values_of sides f) n a) j d) e ∙ get_or-set_same (values_of sides f) n a d (omega (arith, raster_below sides q inside, length-values_of f)))
+            ∙ sym (ap (λ j. get_or (set (values_of sides f) n a) j d) e
+            ∙ get_or-set_same (values_of sides f) n a d (omega (arith, raster_below sides q inside, length-values_of f)))
         | no e ↦
             other (raster_point sides k) (λ s. e (sym (raster_number-raster_point sides k m) ∙ ap (raster_number sides) s))
             ∙ sym (get_or-set_other (values_of sides f) n k a d e ∙ get_or-values_of f k d m)
@@ -61,9 +64,11 @@ module _ (sides : List ℕ) where
   pub picture_blank : (f : Point → Bool) → ((p : Point) → f p ≡ false) → blank sides ≡ picture_of sides f
   picture_blank f e = ap (λ v. record { sides = sides; values = v }) (values_equal sides f false e)
 
-  pub picture_with : (f g : Point → Bool) (q : Point) (b : Bool) → IsTrue (in_box sides q) → g q ≡ b → ((p : Point) → p ≢ q → g p ≡ f p) → with_value (picture_of sides f) q b ≡ picture_of sides g
+  pub picture_with : (f g : Point → Bool) (q : Point) (b : Bool) → IsTrue (in_box sides q) → g q ≡ b → ((p : Point) → p ≢ q → g p ≡ f p)
+      → with_value (picture_of sides f) q b ≡ picture_of sides g
   picture_with f g q b inside there other = ap (λ v. record { sides = sides; values = v }) (values_with sides f g q b inside there other)
 
 -- a picture is that of its values
-pub picture_is : (X : Picture) (f : Point → Bool) → length X.values ≡ box_count X.sides → ((p : Point) → IsTrue (in_box X.sides p) → f p ≡ at X p) → picture_of X.sides f ≡ X
+pub picture_is : (X : Picture) (f : Point → Bool) → length X.values ≡ box_count X.sides → ((p : Point) → IsTrue (in_box X.sides p) → f p ≡ at X p)
+    → picture_of X.sides f ≡ X
 picture_is X f filled e = ap (λ v. record { sides = X.sides; values = v }) (values_same X.sides f (at X) e ∙ values_are X filled)

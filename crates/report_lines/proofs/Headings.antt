@@ -24,11 +24,13 @@ use Rattle.report_lines.specs.declared.opening.Opening.TheVariants.{Flat, Solid,
 -- ---- one line
 
 -- a line with such a spelling that is no heading
-pub no_heading_line : (s : Space) (bytes : List ℕ) (l : Line) → IsLineOf s.axes l → spelling l ≡ bytes → (IsHeading s.greatest l → ⊥) → Spells s.axes bytes (IsHeading s.greatest) → ⊥
+pub no_heading_line : (s : Space) (bytes : List ℕ) (l : Line) → IsLineOf s.axes l → spelling l ≡ bytes → (IsHeading s.greatest l → ⊥)
+    → Spells s.axes bytes (IsHeading s.greatest) → ⊥
 no_heading_line s bytes l f e h = λ (m, g, d, i). h (subst (IsHeading s.greatest) (spelling_injective s.axes m l g f (d ∙ sym e)) i)
 
 -- a line that is no `shape` line is no heading
-pub no_heading : {P : Type 0} (greatest : ℤ) (coords : P → List ℤ) (l : ShapeReport.Line P) → ((number : _) (sides : P) (rule : _) → l ≡ Shape number sides rule → ⊥) → IsHeading greatest (line_of coords l) → ⊥
+pub no_heading : {P : Type 0} (greatest : ℤ) (coords : P → List ℤ) (l : ShapeReport.Line P)
+    → ((number : _) (sides : P) (rule : _) → l ≡ Shape number sides rule → ⊥) → IsHeading greatest (line_of coords l) → ⊥
 no_heading greatest coords (Shape number sides rule) none i = none number sides rule refl
 no_heading greatest coords _ none i = i
 
@@ -40,13 +42,16 @@ any_heading greatest _ i = absurd i
 -- ---- the bytes
 
 -- a line that the bytes begin with has the spelling of the first line
-spelled_so : (d : ℕ) (bytes line rest : List ℕ) (l : Line) (after : List ℕ) → bytes ≡ (line ++ 10 ∷ []) ++ rest → HasNoLf line → StartsWithLine d bytes l after → spelling l ≡ line
+spelled_so : (d : ℕ) (bytes line rest : List ℕ) (l : Line) (after : List ℕ) → bytes ≡ (line ++ 10 ∷ []) ++ rest → HasNoLf line → StartsWithLine d bytes l after
+    → spelling l ≡ line
 spelled_so d bytes line rest l after e free s =
-    same_front line (spelling l) rest after (recursion_from_All (λ c. c ≡ 10 → ⊥) line (All-from_get_or (λ c. c ≡ 10 → ⊥) line 0 (λ k h. free k h))) ((are_spelled d).clean l s.fields)
+    same_front line (spelling l) rest after (recursion_from_All (λ c. c ≡ 10 → ⊥) line (All-from_get_or (λ c. c ≡ 10 → ⊥) line 0 (λ k h. free k h)))
+    ((are_spelled d).clean l s.fields)
     (sym (e ∙ append_assoc line (10 ∷ []) rest) ∙ s.split)
 
 -- the bytes begin with a line that the first line spells
-starts_so : (d : ℕ) (bytes line rest : List ℕ) (n : ℕ) (l : Line) → bytes ≡ (line ++ 10 ∷ []) ++ rest → length line ≡ n → n ≤ 1024 → IsLineOf d l → spelling l ≡ line → StartsWithLine d bytes l rest
+starts_so : (d : ℕ) (bytes line rest : List ℕ) (n : ℕ) (l : Line) → bytes ≡ (line ++ 10 ∷ []) ++ rest → length line ≡ n → n ≤ 1024 → IsLineOf d l
+    → spelling l ≡ line → StartsWithLine d bytes l rest
 starts_so d bytes line rest n l e len short f s = record {
   split = e ∙ append_assoc line (10 ∷ []) rest ∙ ap (λ w. w ++ 10 ∷ rest) (sym s);
   fields = f;
@@ -54,14 +59,16 @@ starts_so d bytes line rest n l e len short f s = record {
 }
 
 -- the bytes whose first line is a heading
-taken_so : (s : Space) (bytes line rest : List ℕ) (n : ℕ) (l : Line) → bytes ≡ (line ++ 10 ∷ []) ++ rest → length line ≡ n → n ≤ 1024 → IsHeadingLine s line l → TakesHeading s bytes (Some rest) l
+taken_so : (s : Space) (bytes line rest : List ℕ) (n : ℕ) (l : Line) → bytes ≡ (line ++ 10 ∷ []) ++ rest → length line ≡ n → n ≤ 1024 → IsHeadingLine s line l
+    → TakesHeading s bytes (Some rest) l
 taken_so s bytes line rest n l e len short h = record {
   takes = record { rest = rest; left = refl; starts = starts_so s.axes bytes line rest n l e len short h.0 h.1 };
   heading = h.2;
 }
 
 -- the bytes whose first line is none
-lacks_so : (s : Space) (bytes line rest : List ℕ) → bytes ≡ (line ++ 10 ∷ []) ++ rest → HasNoLf line → (Spells s.axes line (IsHeading s.greatest) → ⊥) → LacksHeading s bytes
+lacks_so : (s : Space) (bytes line rest : List ℕ) → bytes ≡ (line ++ 10 ∷ []) ++ rest → HasNoLf line → (Spells s.axes line (IsHeading s.greatest) → ⊥)
+    → LacksHeading s bytes
 lacks_so s bytes line rest e free none = λ l after t i. none (l, t.fields, spelled_so s.axes bytes line rest l after e free t, i)
 
 -- the bytes whose first line is the heading of a volume, and those whose first line is not
@@ -71,18 +78,26 @@ volume_so bytes line rest n e len short h =
     (v.0, rest, subst (λ l. StartsWithLine 3 bytes l rest) v.1 (starts_so 3 bytes line rest n h.0 e len short h.1 h.2))
 
 not_volume_so : (bytes line rest : List ℕ) → bytes ≡ (line ++ 10 ∷ []) ++ rest → HasNoLf line → (Spells 3 line IsAnyHeading → ⊥) → IsOfVolume bytes → ⊥
-not_volume_so bytes line rest e free none = λ (k, after, t). none (Line.Shape k, t.fields, spelled_so 3 bytes line rest (Line.Shape k) after e free t, (k, refl))
+not_volume_so bytes line rest e free none =
+    λ (k, after, t). none (Line.Shape k, t.fields, spelled_so 3 bytes line rest (Line.Shape k) after e free t, (k, refl))
 
 -- what the bytes of a line are, where its line was found
-pub heading_found : {H P : Type 0} (s : Space) (inner : H → P) (see : P → Line) (bytes : List ℕ) (q : P) (o : Option H) → IsLineOf s.axes (see q) → spelling (see q) ≡ bytes → IsSome o ↔ IsHeading s.greatest (see q) → IfSome o (λ h. inner h ≡ q)
+pub heading_found : {H P : Type 0} (s : Space) (inner : H → P) (see : P → Line) (bytes : List ℕ) (q : P) (o : Option H) → IsLineOf s.axes (see q)
+    → spelling (see q) ≡ bytes → IsSome o ↔ IsHeading s.greatest (see q) → IfSome o (λ h. inner h ≡ q)
     → HeadingOf s (λ h. see (inner h)) bytes o
 heading_found s inner see bytes q None f e exactly same = no_heading_line s bytes (see q) f e (λ i. let z = exactly.1 i in cc)
-heading_found s inner see bytes q (Some h) f e exactly same = (subst (λ x. IsLineOf s.axes (see x)) (sym same) f, ap (λ x. spelling (see x)) same ∙ e, subst (λ x. IsHeading s.greatest (see x)) (sym same) (exactly.0 refl))
+heading_found s inner see bytes q (Some h) f e exactly same = (
+  subst (λ x. IsLineOf s.axes (see x)) (sym same) f,
+  ap (λ x. spelling (see x)) same
+      ∙ e,
+  subst (λ x. IsHeading s.greatest (see x)) (sym same) (exactly.0 refl),
+)
 
 -- ---- the opening
 
 -- what the first line tells of the bytes
-pub opening_taken : (old new : Option (List ℕ)) (line : List ℕ) (n before now : ℕ) (r : Result Opening ReportFault) → TakesLine old new line n → OpeningOf line r → OpeningAnswer old new before now r
+pub opening_taken : (old new : Option (List ℕ)) (line : List ℕ) (n before now : ℕ) (r : Result Opening ReportFault) → TakesLine old new line n
+    → OpeningOf line r → OpeningAnswer old new before now r
 opening_taken None new line n before now (Ok (Flat h)) t k = tt
 opening_taken None new line n before now (Ok (Solid h)) t k = tt
 opening_taken None new line n before now (Ok NoBox) t k = tt

@@ -48,7 +48,8 @@ none_is_end X lines good i h e =
     (is_report X).ends (take i lines) next (subst (λ ls. GoodAfter X ls next) (sym (take_next lines i Line.End e)) g)
 
 -- good lines come in order
-good_in_order : (s : Space) (X : Subject) (lines : List Line) → AreSides s.greatest (map pos X.picture.sides) → Analysis.GoodSoFar X lines → GoodSoFar (in_order s) lines
+good_in_order : (s : Space) (X : Subject) (lines : List Line) → AreSides s.greatest (map pos X.picture.sides) → Analysis.GoodSoFar X lines
+    → GoodSoFar (in_order s) lines
 good_in_order s X lines box good k l e =
     let g = good k l e in
     let below = slice_get_within lines k l e in
@@ -69,7 +70,8 @@ good_in_order s X lines box good k l e =
     }
 
 -- good lines with `end` last are a report in order
-pub lines_in_order : (s : Space) (X : Subject) (text : List ℕ) (front : List Line) → Analyses.BeginsWith X text (front ++ Line.End ∷ []) [] → length X.picture.sides ≡ s.axes → AreSides s.greatest (map pos X.picture.sides)
+pub lines_in_order : (s : Space) (X : Subject) (text : List ℕ) (front : List Line) → Analyses.BeginsWith X text (front ++ Line.End ∷ []) []
+    → length X.picture.sides ≡ s.axes → AreSides s.greatest (map pos X.picture.sides)
     → IsReport s text (front ++ Line.End ∷ [])
 lines_in_order s X text front b axes box = record {
   whole = record {
@@ -81,7 +83,8 @@ lines_in_order s X text front b axes box = record {
   ends = record { front = front; is = refl };
 }
 
-pub holding_in_order : (s : Space) (X : Subject) (text : List ℕ) → Analyses.Holds X text → length X.picture.sides ≡ s.axes → AreSides s.greatest (map pos X.picture.sides) → (lines : List Line) × IsReport s text lines
+pub holding_in_order : (s : Space) (X : Subject) (text : List ℕ) → Analyses.Holds X text → length X.picture.sides ≡ s.axes
+    → AreSides s.greatest (map pos X.picture.sides) → (lines : List Line) × IsReport s text lines
 holding_in_order s X text (front, b) axes box = (front ++ Line.End ∷ [], lines_in_order s X text front b axes box)
 
 -- a report has no first bad line

@@ -55,7 +55,8 @@ no_event Y filled = record { sides = refl; filled = filled; value = λ p. and_tr
 tip_first : (Y : Picture) (p : Point) (events : List Event) (Z : Picture) → Leaves Y events Z → Leaves Y (Event.Tip p ∷ events) Z
 tip_first Y p events Z h = record { sides = h.sides; filled = h.filled; value = h.value }
 
-del_first : (Y : Picture) (p : Point) (events : List Event) (Z : Picture) → length Y.values ≡ box_count Y.sides → IsTrue (in_box Y.sides p) → Leaves (with_value Y p false) events Z → Leaves Y (Event.Del p ∷ events) Z
+del_first : (Y : Picture) (p : Point) (events : List Event) (Z : Picture) → length Y.values ≡ box_count Y.sides → IsTrue (in_box Y.sides p)
+    → Leaves (with_value Y p false) events Z → Leaves Y (Event.Del p ∷ events) Z
 del_first Y p events Z filled inside h = record {
   sides = h.sides;
   filled = h.filled;
@@ -72,14 +73,16 @@ del_first Y p events Z filled inside h = record {
 }
 
 module _ (rule : Rule) (X : Picture) where
-  pub leaves : (events : List Event) (s u : Stage) → FoldsTo (ThinStep rule X) s events u → length s.left.values ≡ box_count s.left.sides → Leaves s.left events u.left
+  pub leaves : (events : List Event) (s u : Stage) → FoldsTo (ThinStep rule X) s events u → length s.left.values ≡ box_count s.left.sides
+      → Leaves s.left events u.left
   leaves [] s u e filled = subst (λ v. Leaves s.left [] v.left) e (no_event s.left filled)
   leaves (d ∷ events) s u (v, (p, facts, n, e, a), r) filled = elim (cases_Bool (rule.marks s.state facts)) [
     | inl y ↦
         let is : d ≡ Event.Tip p = e ∙ ap (λ b. cond b (Event.Tip p) (Event.Del p)) y in
         let left : v.left ≡ s.left = ap (λ w. w.left) (a ∙ ap (λ x. stage_after rule s x facts) is) in
         subst (λ x. Leaves s.left (x ∷ events) u.left) (sym is)
-        (tip_first s.left p events u.left (subst (λ Y. Leaves Y events u.left) left (leaves events v u r (subst (λ (Y : Picture). length Y.values ≡ box_count Y.sides) (sym left) filled))))
+        (tip_first s.left p events u.left
+        (subst (λ Y. Leaves Y events u.left) left (leaves events v u r (subst (λ (Y : Picture). length Y.values ≡ box_count Y.sides) (sym left) filled))))
     | inr f ↦
         let is : d ≡ Event.Del p = e ∙ ap (λ b. cond b (Event.Tip p) (Event.Del p)) f in
         let left : v.left ≡ with_value s.left p false = ap (λ w. w.left) (a ∙ ap (λ x. stage_after rule s x facts) is) in

@@ -1,3 +1,10 @@
+pub mod MadeLaws
+pub mod Files
+pub mod OneMaking
+pub mod Complete
+pub mod Written
+pub mod Weaker
+pub mod FlatAlone
 pub mod Order
 pub mod Headings
 pub mod Reading

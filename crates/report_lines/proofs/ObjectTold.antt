@@ -1,6 +1,7 @@
 -- What `near` lines tell that are the field of a picture: its object, and its least squared distances.
 -- Laws of lines and pictures; no thinning stands here.
-use Rattle.std.proofs.Common.{◌≡◌, inl, inr, ℕ, zero, suc, ◌<◌, Bool, true, false, List, [], ◌∷◌, length, get_or, map, refl, ap, sym, ◌∙◌, subst, arith, Some, None}
+use Rattle.std.proofs.Common.{◌≡◌, inl, inr, ℕ, zero, suc, ◌<◌, Bool, true, false, List, [], ◌∷◌, length, get_or, map, refl, ap, sym, ◌∙◌, subst, arith, Some}
+use Rattle.std.proofs.Common.{None}
 use Rattle.std.specs.Prelude.{IsTrue, ◌&&◌, ◌||◌, if◌then◌else◌, filter, filter_map}
 use Rattle.std.specs.List.{list_any, cons_option, AllByRecursion}
 use Rattle.std.proofs.lemmas.Bool.{cases_Bool, cond-true, cond-false}
@@ -74,10 +75,12 @@ any_at (q ∷ qs) (suc i) p l e = ap (λ b. is_same_point p q || b) (any_at qs i
 any_box : (sides : List ℕ) (p : Point) → IsTrue (in_box sides p) → list_any (is_same_point p) (box_points sides) ≡ true
 any_box sides p h =
     let l = raster_below sides p h in
-    any_at (box_points sides) (raster_number sides p) p (omega (arith, l, length-box_points sides)) (get_or-box_points sides (raster_number sides p) [] l ∙ raster_point-raster_number sides p h)
+    any_at (box_points sides) (raster_number sides p) p (omega (arith, l, length-box_points sides))
+    (get_or-box_points sides (raster_number sides p) [] l ∙ raster_point-raster_number sides p h)
 
 -- the `near` lines of the field of a picture are about its object points
-pub near_is_object : (X : Picture) (lines : List Line) → IsField X (filter_map near_fact lines) → (p : Point) → IsTrue (in_box X.sides p) → is_near lines p ≡ at X p
+pub near_is_object : (X : Picture) (lines : List Line) → IsField X (filter_map near_fact lines) → (p : Point) → IsTrue (in_box X.sides p)
+    → is_near lines p ≡ at X p
 near_is_object X lines field p h =
     ap (list_any (is_same_point p)) (near_points lines ∙ field.points)
     ∙ any_filter (at X) (box_points X.sides) p ∙ ap (λ b. at X p && b) (any_box X.sides p h) ∙ and_true (at X p)
@@ -106,12 +109,14 @@ unfolding is_some
 near_some [] p = refl
 near_some (Line.Near q r n ∷ lines) p = elim (cases_Bool (is_same_point p q)) [
   | inl y ↦ ap (λ b. b || is_near lines p) y ∙ sym (ap (λ b. is_some (cons_option (if b then Some n else None) (filter_map (square_for p) lines))) y)
-  | inr f ↦ ap (λ b. b || is_near lines p) f ∙ near_some lines p ∙ sym (ap (λ b. is_some (cons_option (if b then Some n else None) (filter_map (square_for p) lines))) f)
+  | inr f ↦ ap (λ b. b || is_near lines p) f ∙ near_some lines p
+      ∙ sym (ap (λ b. is_some (cons_option (if b then Some n else None) (filter_map (square_for p) lines))) f)
 ]
 near_some (_ ∷ lines) p = near_some lines p
 
 -- each number that is given for a point is its squared distance
-all_least : (X : Picture) (lines : List Line) (p : Point) → AllByRecursion (λ (f : NearFact). Least X f.p f.q f.s) (filter_map near_fact lines) → AllByRecursion (HasDistance X p) (filter_map (square_for p) lines)
+all_least : (X : Picture) (lines : List Line) (p : Point) → AllByRecursion (λ (f : NearFact). Least X f.p f.q f.s) (filter_map near_fact lines)
+    → AllByRecursion (HasDistance X p) (filter_map (square_for p) lines)
 all_least X [] p h = tt
 all_least X (Line.Near q r n ∷ lines) p h =
     let rest = all_least X lines p h.1 in

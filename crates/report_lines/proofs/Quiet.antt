@@ -7,7 +7,8 @@ use Rattle.shape_report.specs.declared.line.Line.TheVariants.{Shape, Parts, Near
 use Rattle.shape_report.specs.LineOf.{line_of}
 use Rattle.report_lines.proofs.Saying.{SaysNothing}
 
-pub is_quiet : {P : Type 0} (coords : P → List ℤ) (l : Line P) → ((p q : P) (s : ℕ) → l ≡ Near p q s → ⊥) → ((p : P) → l ≡ Del p → ⊥) → SaysNothing (line_of coords l)
+pub is_quiet : {P : Type 0} (coords : P → List ℤ) (l : Line P) → ((p q : P) (s : ℕ) → l ≡ Near p q s → ⊥) → ((p : P) → l ≡ Del p → ⊥)
+    → SaysNothing (line_of coords l)
 is_quiet coords (Shape number sides rule) near del = record { near = refl; square = λ p. refl; deleted = refl }
 is_quiet coords (Parts n o b) near del = record { near = refl; square = λ p. refl; deleted = refl }
 is_quiet coords (Near p q s) near del = absurd (near p q s refl)

@@ -8,7 +8,8 @@ use Rattle.text_terms.proofs.ListPushes.{filter_map-same, filter_map-push}
 use Rattle.shape_terms.specs.Points.{Point, in_box}
 use Rattle.shape_terms.specs.Pictures.{at, with_value}
 use Rattle.report_terms.specs.Lines.{Line}
-use Rattle.report_lines.specs.Said.{given_sides, is_same_point, near_point, square_for, deleted_point, is_near, is_deleted, is_left, last_or, square_of, picture_of, said_in, said}
+use Rattle.report_lines.specs.Said.{given_sides, is_same_point, near_point, square_for, deleted_point, is_near, is_deleted, is_left, last_or, square_of}
+use Rattle.report_lines.specs.Said.{picture_of, said_in, said}
 use Rattle.report_lines.specs.Kept.{now_near, with_near, now_deleted, with_deleted}
 use Rattle.shape_terms.proofs.PointTests.{same_point}
 use Rattle.report_lines.proofs.SamePoints.{same_yes, same_not, any_there, any_other}
@@ -67,7 +68,8 @@ module _ (sides : List ℕ) (lines : List Line) (q r : Point) (n : ℕ) where
       ∙ last_push 0 n (filter_map (square_for p) lines)
 
   near_square_other : (p : Point) → p ≢ q → square_of (lines ++ Line.Near q r n ∷ []) p ≡ square_of lines p
-  near_square_other p e = ap (last_or 0) (filter_map-same (square_for p) lines (Line.Near q r n) (ap (λ b. cons_option (if b then Some n else None) []) (same_not p q e)))
+  near_square_other p e =
+      ap (last_or 0) (filter_map-same (square_for p) lines (Line.Near q r n) (ap (λ b. cons_option (if b then Some n else None) []) (same_not p q e)))
 
   near_left_other : (p : Point) → p ≢ q → is_left (lines ++ Line.Near q r n ∷ []) p ≡ is_left lines p
   near_left_other p e = λ i. near_other p e i && not (near_deleted p i)
@@ -83,10 +85,13 @@ module _ (sides : List ℕ) (lines : List Line) (q r : Point) (n : ℕ) where
               ∙ sym ((λ i. is_near lines p && not (gone i)) ∙ and_false (is_near lines p))
           | no e ↦ near_left_other p e
         ])
-        ∙ sym (cond-false (not (at (picture_of sides (is_deleted lines)) q)) (with_value (picture_of sides (is_left lines)) q true) (picture_of sides (is_left lines)) (ap not (at_picture_of sides (is_deleted lines) q inside ∙ y)))
+        ∙ sym (cond-false (not (at (picture_of sides (is_deleted lines)) q)) (with_value (picture_of sides (is_left lines)) q true)
+        (picture_of sides (is_left lines)) (ap not (at_picture_of sides (is_deleted lines) q inside ∙ y)))
     | inr f ↦
-        sym (cond-true (not (at (picture_of sides (is_deleted lines)) q)) (with_value (picture_of sides (is_left lines)) q true) (picture_of sides (is_left lines)) (ap not (at_picture_of sides (is_deleted lines) q inside ∙ f))
-        ∙ picture_with sides (is_left lines) (is_left (lines ++ Line.Near q r n ∷ [])) q true inside (λ i. near_there q refl i && not ((near_deleted q ∙ f) i)) near_left_other)
+        sym (cond-true (not (at (picture_of sides (is_deleted lines)) q)) (with_value (picture_of sides (is_left lines)) q true)
+        (picture_of sides (is_left lines)) (ap not (at_picture_of sides (is_deleted lines) q inside ∙ f))
+        ∙ picture_with sides (is_left lines) (is_left (lines ++ Line.Near q r n ∷ [])) q true inside (λ i. near_there q refl i && not ((near_deleted q ∙ f) i))
+        near_left_other)
   ]
 
   pub says_near : said_in sides (lines ++ Line.Near q r n ∷ []) ≡ with_near (said_in sides lines) q n

@@ -27,7 +27,8 @@ holding_tells s X text (front, b) stands =
     let all = front ++ Line.End ∷ [] in
     let t = holds_shows X text (front, b) in
     let d = length X.picture.sides in
-    let same : t.lines ≡ all = one_list d t.lines all (recursion_from_All (IsLineOf d) t.lines t.fields) (recursion_from_All (IsLineOf d) all b.fields) (sym t.text_is ∙ b.split ∙ append-nil (text_of all)) in
+    let same : t.lines ≡ all = one_list d t.lines all (recursion_from_All (IsLineOf d) t.lines t.fields) (recursion_from_All (IsLineOf d) all b.fields)
+    (sym t.text_is ∙ b.split ∙ append-nil (text_of all)) in
     let shows = subst (λ ls. Shows X.picture t.rule (content_of ls)) same t.shows in
     let given = given_all X front b.good in
     let near = near_is_object X.picture all shows.nears in

@@ -20,5 +20,6 @@ one_list d (m ∷ ms) (n ∷ ns) f g e =
     let s = sym (append_assoc (spelling m) (10 ∷ []) (text_of ms)) ∙ e ∙ append_assoc (spelling n) (10 ∷ []) (text_of ns) in
     let w = same_front (spelling m) (spelling n) (text_of ms) (text_of ns) (no_lf (spelling m) ((are_spelled d).clean m f.0)) ((are_spelled d).clean n g.0) s in
     let one : m ≡ n = spelling_injective d m n f.0 g.0 (sym w) in
-    let rest : ms ≡ ns = one_list d ms ns f.1 g.1 (append_cancel_left (line_text m) (text_of ms) (text_of ns) (e ∙ ap (λ l. line_text l ++ text_of ns) (sym one))) in
+    let rest : ms ≡ ns = one_list d ms ns f.1 g.1
+    (append_cancel_left (line_text m) (text_of ms) (text_of ns) (e ∙ ap (λ l. line_text l ++ text_of ns) (sym one))) in
     λ i. one i ∷ rest i

@@ -1,3 +1,7 @@
+pub mod Made
+pub mod Runs
+pub mod Outcomes
+pub mod Complete
 pub mod Reports
 pub mod Said
 pub mod Kept

@@ -61,7 +61,8 @@ values_of sides f = map f (box_points sides)
 abbrev pub picture_of : List ℕ → (Point → Bool) → Picture
 picture_of sides f = record { sides = sides; values = values_of sides f }
 
--- what is said of the points of a box: which are object, the squared distance of each, in raster order, and 0 where none is given, which are deleted, and which object points are not
+-- what is said of the points of a box: which are object, the squared distance of each, in raster order, and 0 where none is given, which are deleted, and which
+-- object points are not
 pub record Said : Type 0 where
   pub object : Picture
   pub squares : List ℕ

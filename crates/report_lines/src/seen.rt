@@ -8,10 +8,10 @@ ghost use Rattle.report_lines.specs.Kept.{AreOf, with_near, with_deleted};
 
 use crate::opening::Heading;
 use crate::sketch::Sketch;
+use shape_cells::Squares;
 use shape_grid::Grid;
 use shape_report::Line;
 use shape_space::{NoMemory, Point, Sides};
-use shape_squares::Squares;
 use std::alloc::Global;
 use std::marker::Model;
 

@@ -11,7 +11,8 @@ use Rattle.shape_terms.specs.Points.{Point}
 use Rattle.report_terms.specs.Lines.{Line}
 use Rattle.shape_terms.specs.Covers.{Evidence}
 use Rattle.report_terms.specs.ContourFacts.{Segment, stretches_of, GapFact, kind_of}
-use Rattle.report_terms.specs.ContourLines.{groups, is_contour, contour_groups, open_group, point_of, segment_of, gap_of, declared_of, last_segment, standing, standing_with}
+use Rattle.report_terms.specs.ContourLines.{groups, is_contour, contour_groups, open_group, point_of, segment_of, gap_of, declared_of, last_segment, standing}
+use Rattle.report_terms.specs.ContourLines.{standing_with}
 use Rattle.text_terms.proofs.ListPushes.{filter_map-same, filter_map-push, with_last}
 
 module _ (test : Line → Bool) where
@@ -54,7 +55,8 @@ module _ (test : Line → Bool) where
   ]
 
   -- where no group begins, all lines belong to the one before
-  rest_none : (lines : List Line) (l : Line) → test l ≡ false → groups test lines ≡ [] → (groups test (lines ++ l ∷ []) ≡ []) × (rest (lines ++ l ∷ []) ≡ rest lines ++ l ∷ [])
+  rest_none : (lines : List Line) (l : Line) → test l ≡ false → groups test lines ≡ []
+      → (groups test (lines ++ l ∷ []) ≡ []) × (rest (lines ++ l ∷ []) ≡ rest lines ++ l ∷ [])
   unfolding rest
   rest_none [] l t e = (passes l [] t, rest-goes l [] t)
   rest_none (x ∷ lines) l t e = elim (cases_Bool (test x)) [
@@ -75,7 +77,8 @@ module _ (test : Line → Bool) where
   ]
 
   -- the same behind a line that begins a group, where it is known of the lines behind
-  more_behind : (x : Line) (lines : List Line) (l : Line) (front : List (List Line)) (g : List Line) → test l ≡ false → test x ≡ true → ((f : List (List Line)) → groups test lines ≡ f ++ g ∷ [] → groups test (lines ++ l ∷ []) ≡ f ++ (g ++ l ∷ []) ∷ [])
+  more_behind : (x : Line) (lines : List Line) (l : Line) (front : List (List Line)) (g : List Line) → test l ≡ false → test x ≡ true
+      → ((f : List (List Line)) → groups test lines ≡ f ++ g ∷ [] → groups test (lines ++ l ∷ []) ≡ f ++ (g ++ l ∷ []) ∷ [])
       → (x ∷ rest lines) ∷ groups test lines ≡ front ++ g ∷ [] → groups test (x ∷ (lines ++ l ∷ [])) ≡ front ++ (g ++ l ∷ []) ∷ []
   unfolding rest
   more_behind x lines l [] g t y h e =
@@ -91,7 +94,8 @@ module _ (test : Line → Bool) where
       begins x (lines ++ l ∷ []) y ∙ (λ i. (x ∷ r i) ∷ s i) ∙ ap (λ h. h ∷ (front ++ (g ++ l ∷ []) ∷ [])) a
 
   -- any other line belongs to the last group
-  pub group_more : (lines : List Line) (l : Line) (front : List (List Line)) (g : List Line) → test l ≡ false → groups test lines ≡ front ++ g ∷ [] → groups test (lines ++ l ∷ []) ≡ front ++ (g ++ l ∷ []) ∷ []
+  pub group_more : (lines : List Line) (l : Line) (front : List (List Line)) (g : List Line) → test l ≡ false → groups test lines ≡ front ++ g ∷ []
+      → groups test (lines ++ l ∷ []) ≡ front ++ (g ++ l ∷ []) ∷ []
   group_more [] l [] g t e = cc
   group_more [] l (f ∷ front) g t e = cc
   group_more (x ∷ lines) l front g t e = elim (cases_Bool (test x)) [
@@ -110,16 +114,20 @@ open_is lines front g e =
 -- where segments are declared, a contour was begun
 pub declared_begun : (lines : List Line) → 0 < (standing lines).declared → 0 < (standing lines).begun
 declared_begun lines h = elim (cases_lt 0 (length (contour_groups lines))) [
-  | inr e ↦ absurd (let g : open_group lines ≡ [] = (let n = nil_from_length (contour_groups lines) (omega arith) in rw n refl) in let d : declared_of (open_group lines) ≡ 0 = ap declared_of g in omega arith)
+  | inr e ↦ absurd (let g : open_group lines ≡ [] = (let n = nil_from_length (contour_groups lines) (omega arith) in rw n refl) in
+      let d : declared_of (open_group lines) ≡ 0 = ap declared_of g in omega arith)
   | inl p ↦ p
 ]
 
 -- a `contour` line begins the next contour
-pub standing_begun : (lines : List Line) (p : Point) (side n m : ℕ) → standing (lines ++ Line.Contour p side n m ∷ []) ≡ record { begun = (standing lines).begun + 1; points = 0; declared = m; stretches = []; last = None; gaps = 0 }
+pub standing_begun : (lines : List Line) (p : Point) (side n m : ℕ)
+    → standing (lines ++ Line.Contour p side n m ∷ [])
+    ≡ record { begun = (standing lines).begun + 1; points = 0; declared = m; stretches = []; last = None; gaps = 0 }
 standing_begun lines p side n m =
     let l = Line.Contour p side n m in
     let e = group_begun is_contour lines l refl in
-    let a : length (contour_groups (lines ++ l ∷ [])) ≡ length (contour_groups lines) + 1 = ap length e ∙ length-append (contour_groups lines) ((l ∷ []) ∷ []) in
+    let a : length (contour_groups (lines ++ l ∷ [])) ≡ length (contour_groups lines) + 1 = ap length e
+    ∙ length-append (contour_groups lines) ((l ∷ []) ∷ []) in
     let b : open_group (lines ++ l ∷ []) ≡ l ∷ [] = open_is (lines ++ l ∷ []) (contour_groups lines) (l ∷ []) e in
     λ i. standing_with (a i) (b i)
 
@@ -136,42 +144,55 @@ last_push (x ∷ []) l = refl
 last_push (x ∷ y ∷ g) l = last_push (y ∷ g) l
 
 -- any other line belongs to the contour that was begun last
-grown : (lines : List Line) (l : Line) → is_contour l ≡ false → 0 < (standing lines).begun → standing (lines ++ l ∷ []) ≡ standing_with (standing lines).begun (open_group lines ++ l ∷ [])
+grown : (lines : List Line) (l : Line) → is_contour l ≡ false → 0 < (standing lines).begun
+    → standing (lines ++ l ∷ []) ≡ standing_with (standing lines).begun (open_group lines ++ l ∷ [])
 grown lines l t h =
     let r = with_last (contour_groups lines) h in
     let e = group_more is_contour lines l r.0 r.1 t r.2 in
-    let a : length (contour_groups (lines ++ l ∷ [])) ≡ length (contour_groups lines) = ap length e ∙ length-append r.0 ((r.1 ++ l ∷ []) ∷ []) ∙ sym (ap length r.2 ∙ length-append r.0 (r.1 ∷ [])) in
-    let b : open_group (lines ++ l ∷ []) ≡ open_group lines ++ l ∷ [] = open_is (lines ++ l ∷ []) r.0 (r.1 ++ l ∷ []) e ∙ ap (λ g. g ++ l ∷ []) (sym (open_is lines r.0 r.1 r.2)) in
+    let a : length (contour_groups (lines ++ l ∷ [])) ≡ length (contour_groups lines) = ap length e ∙ length-append r.0 ((r.1 ++ l ∷ []) ∷ [])
+    ∙ sym (ap length r.2 ∙ length-append r.0 (r.1 ∷ [])) in
+    let b : open_group (lines ++ l ∷ []) ≡ open_group lines ++ l ∷ [] = open_is (lines ++ l ∷ []) r.0 (r.1 ++ l ∷ []) e
+    ∙ ap (λ g. g ++ l ∷ []) (sym (open_is lines r.0 r.1 r.2)) in
     λ i. standing_with (a i) (b i)
 
 -- an `at` line gives one more point
-pub standing_point : (lines : List Line) (p : Point) → 0 < (standing lines).begun → standing (lines ++ Line.At p ∷ []) ≡ record (standing lines) { points = (standing lines).points + 1; last = None }
+pub standing_point : (lines : List Line) (p : Point) → 0 < (standing lines).begun
+    → standing (lines ++ Line.At p ∷ []) ≡ record (standing lines) { points = (standing lines).points + 1; last = None }
 standing_point lines p h =
     let l = Line.At p in
     let g = open_group lines in
-    let a : length (filter_map point_of (g ++ l ∷ [])) ≡ length (filter_map point_of g) + 1 = ap length (filter_map-push point_of g l p refl) ∙ length-append (filter_map point_of g) (p ∷ []) in
+    let a : length (filter_map point_of (g ++ l ∷ [])) ≡ length (filter_map point_of g) + 1 = ap length (filter_map-push point_of g l p refl)
+    ∙ length-append (filter_map point_of g) (p ∷ []) in
     let d = declared_stays g l refl in
     let b = filter_map-same segment_of g l refl in
     let c = filter_map-same gap_of g l refl in
     let o = last_push g l in
-    grown lines l refl h ∙ (λ i. record { begun = (standing lines).begun; points = a i; declared = d i; stretches = stretches_of (b i); last = o i; gaps = length (c i) })
+    grown lines l refl h ∙
+    (λ i. record { begun = (standing lines).begun; points = a i; declared = d i; stretches = stretches_of (b i); last = o i; gaps = length (c i) })
 
 -- a `seg` line gives one more segment
 pub standing_segment : (lines : List Line) (b e t : ℕ) (row : List ℤ) (mu : ℤ) → 0 < (standing lines).begun
-    → standing (lines ++ Line.Seg b e t row mu ∷ []) ≡ record (standing lines) { stretches = (standing lines).stretches ++ record { first = b; last = e } ∷ []; last = Some (record { stretch = record { first = b; last = e }; axis = t; line = record { a = row; mu = mu } }) }
+    → standing (lines ++ Line.Seg b e t row mu ∷ []) ≡ record (standing lines) {
+      stretches = (standing lines).stretches ++ record { first = b; last = e } ∷ [];
+      last =
+          Some (record { stretch = record { first = b; last = e }; axis = t; line = record { a = row; mu = mu } });
+    }
 standing_segment lines b e t row mu h =
     let l = Line.Seg b e t row mu in
     let g = open_group lines in
     let s : Segment = record { stretch = record { first = b; last = e }; axis = t; line = record { a = row; mu = mu } } in
     let a = filter_map-same point_of g l refl in
     let d = declared_stays g l refl in
-    let c : stretches_of (filter_map segment_of (g ++ l ∷ [])) ≡ stretches_of (filter_map segment_of g) ++ s.stretch ∷ [] = ap stretches_of (filter_map-push segment_of g l s refl) ∙ map-append (λ (x : Segment). x.stretch) (filter_map segment_of g) (s ∷ []) in
+    let c : stretches_of (filter_map segment_of (g ++ l ∷ [])) ≡ stretches_of (filter_map segment_of g) ++ s.stretch ∷ [] =
+    ap stretches_of (filter_map-push segment_of g l s refl) ∙ map-append (λ (x : Segment). x.stretch) (filter_map segment_of g) (s ∷ []) in
     let f = filter_map-same gap_of g l refl in
     let o = last_push g l in
-    grown lines l refl h ∙ (λ i. record { begun = (standing lines).begun; points = length (a i); declared = d i; stretches = c i; last = o i; gaps = length (f i) })
+    grown lines l refl h ∙
+    (λ i. record { begun = (standing lines).begun; points = length (a i); declared = d i; stretches = c i; last = o i; gaps = length (f i) })
 
 -- a `least` line gives none of these
-pub standing_least : (lines : List Line) (pairs : Pairs) → 0 < (standing lines).begun → standing (lines ++ Line.Least pairs ∷ []) ≡ record (standing lines) { last = None }
+pub standing_least : (lines : List Line) (pairs : Pairs) → 0 < (standing lines).begun
+    → standing (lines ++ Line.Least pairs ∷ []) ≡ record (standing lines) { last = None }
 standing_least lines pairs h =
     let l = Line.Least pairs in
     let g = open_group lines in
@@ -180,10 +201,12 @@ standing_least lines pairs h =
     let b = filter_map-same segment_of g l refl in
     let c = filter_map-same gap_of g l refl in
     let o = last_push g l in
-    grown lines l refl h ∙ (λ i. record { begun = (standing lines).begun; points = length (a i); declared = d i; stretches = stretches_of (b i); last = o i; gaps = length (c i) })
+    grown lines l refl h ∙
+    (λ i. record { begun = (standing lines).begun; points = length (a i); declared = d i; stretches = stretches_of (b i); last = o i; gaps = length (c i) })
 
 -- a gap line gives one more refusal
-pub standing_gap : (lines : List Line) (t : ℕ) (evidence : Evidence) → 0 < (standing lines).begun → standing (lines ++ Line.Gap t evidence ∷ []) ≡ record (standing lines) { last = None; gaps = (standing lines).gaps + 1 }
+pub standing_gap : (lines : List Line) (t : ℕ) (evidence : Evidence) → 0 < (standing lines).begun
+    → standing (lines ++ Line.Gap t evidence ∷ []) ≡ record (standing lines) { last = None; gaps = (standing lines).gaps + 1 }
 standing_gap lines t evidence h =
     let l = Line.Gap t evidence in
     let f : GapFact = record { axis = t; kind = kind_of evidence } in
@@ -191,6 +214,8 @@ standing_gap lines t evidence h =
     let a = filter_map-same point_of g l refl in
     let d = declared_stays g l refl in
     let b = filter_map-same segment_of g l refl in
-    let c : length (filter_map gap_of (g ++ l ∷ [])) ≡ length (filter_map gap_of g) + 1 = ap length (filter_map-push gap_of g l f refl) ∙ length-append (filter_map gap_of g) (f ∷ []) in
+    let c : length (filter_map gap_of (g ++ l ∷ [])) ≡ length (filter_map gap_of g) + 1 = ap length (filter_map-push gap_of g l f refl)
+    ∙ length-append (filter_map gap_of g) (f ∷ []) in
     let o = last_push g l in
-    grown lines l refl h ∙ (λ i. record { begun = (standing lines).begun; points = length (a i); declared = d i; stretches = stretches_of (b i); last = o i; gaps = c i })
+    grown lines l refl h ∙
+    (λ i. record { begun = (standing lines).begun; points = length (a i); declared = d i; stretches = stretches_of (b i); last = o i; gaps = c i })

@@ -24,9 +24,11 @@ module _ (X : Picture) where
   left_inside (c ∷ cracks) h =
       let rest = left_inside cracks (λ d i. h d (later_in c cracks d i)) in
       elim (cases_Bool (not (stays X c))) [
-        | inl t ↦ subst (λ cs. All (IsInside X) (map (λ (k : Crack). k.pixel) cs)) (sym (cond-true (not (stays X c)) (c ∷ filter (λ k. not (stays X k)) cracks) (filter (λ k. not (stays X k)) cracks) t))
+        | inl t ↦ subst (λ cs. All (IsInside X) (map (λ (k : Crack). k.pixel) cs))
+            (sym (cond-true (not (stays X c)) (c ∷ filter (λ k. not (stays X k)) cracks) (filter (λ k. not (stays X k)) cracks) t))
             (All-cons (IsInside X) c.pixel (left_pixels X cracks) (inside c (h c (head_in c cracks))) rest)
-        | inr f ↦ subst (λ cs. All (IsInside X) (map (λ (k : Crack). k.pixel) cs)) (sym (cond-false (not (stays X c)) (c ∷ filter (λ k. not (stays X k)) cracks) (filter (λ k. not (stays X k)) cracks) f)) rest
+        | inr f ↦ subst (λ cs. All (IsInside X) (map (λ (k : Crack). k.pixel) cs))
+            (sym (cond-false (not (stays X c)) (c ∷ filter (λ k. not (stays X k)) cracks) (filter (λ k. not (stays X k)) cracks) f)) rest
       ]
     where
       inside : (c : Crack) → IsCrack X c → IsInside X c.pixel
@@ -42,7 +44,8 @@ module _ (X : Picture) where
       go true = All-cons (IsInside X) c.pixel [] inside (All-nil (IsInside X))
       go false = left_inside (c ∷ cracks) h
 
-  cycles_inside : (cycles : List (List Crack)) → All (IsCycle X) cycles → ((c : Crack) → Contains (flat_map (λ x. x) cycles) c → IsCrack X c) → All (λ (k : Contour). All (IsInside X) k.points) (map (contour_of X) cycles)
+  cycles_inside : (cycles : List (List Crack)) → All (IsCycle X) cycles → ((c : Crack) → Contains (flat_map (λ x. x) cycles) c → IsCrack X c)
+      → All (λ (k : Contour). All (IsInside X) k.points) (map (contour_of X) cycles)
   cycles_inside [] a each = All-nil (λ (k : Contour). All (IsInside X) k.points)
   cycles_inside ([] ∷ cycles) a each = absurd (All-head (IsCycle X) [] cycles a)
   cycles_inside ((c ∷ cracks) ∷ cycles) a each =
@@ -52,10 +55,12 @@ module _ (X : Picture) where
 
   -- each point of each contour lies in the box
   pub contours_inside : (contours : List Contour) → AreContours X contours → All (λ (k : Contour). All (IsInside X) k.points) contours
-  contours_inside contours are = subst (All (λ (k : Contour). All (IsInside X) k.points)) (sym are.contours_are) (cycles_inside are.cycles are.are.cycle (λ c i. (are.are.each c).1 i))
+  contours_inside contours are = subst (All (λ (k : Contour). All (IsInside X) k.points)) (sym are.contours_are)
+      (cycles_inside are.cycles are.are.cycle (λ c i. (are.are.each c).1 i))
 
 -- what is true of each point of a contour is true of each point of an arc
-pub arc_at : (P : Point → Type 0) (points : List Point) (b e i : ℕ) → All P points → b < length points → i < length (arc points b e) → P (point_at (arc points b e) i)
+pub arc_at : (P : Point → Type 0) (points : List Point) (b e i : ℕ) → All P points → b < length points → i < length (arc points b e)
+    → P (point_at (arc points b e) i)
 arc_at P points b e i h some l =
     let n = length-arc points b e in
     let q : (b + i) % length points < length points = omega arith in

@@ -12,7 +12,8 @@ use Rattle.shape_terms.specs.Straight.{IsStraightFor}
 use Rattle.shape_terms.specs.Contours.{Crack}
 use Rattle.shape_terms.specs.Covers.{Stretch, IsSegment, Evidence, IsEvidence, arc, gap_run}
 use Rattle.shape_terms.specs.GapCover.{stretch_at, AreGapped}
-use Rattle.report_terms.specs.ContourFacts.{Segment, stretches_of, GapKind, GapFact, in_pairs, SegmentShows, SegmentIsLeast, SegmentHasEvidence, RefusalShows, ContourShows}
+use Rattle.report_terms.specs.ContourFacts.{Segment, stretches_of, GapKind, GapFact, in_pairs, SegmentShows, SegmentIsLeast, SegmentHasEvidence, RefusalShows}
+use Rattle.report_terms.specs.ContourFacts.{ContourShows}
 use Rattle.shape_terms.specs.Least.{Pairs}
 use Rattle.shape_terms.proofs.LeastLines.{shows_least}
 use Rattle.shape_terms.proofs.ArcRuns.{length-arc}
@@ -24,7 +25,8 @@ use Rattle.report_terms.proofs.CoverTaken.{CoverSoFar, IsListed, HaveEvidence}
 
 -- ---- straight segments
 
-arc_straight : (points : List Point) (m : ℕ) (before : List Stretch) (b e t : ℕ) (line : Naive) → IsSegment points m before b e t line → IsStraightFor t (arc points b e)
+arc_straight : (points : List Point) (m : ℕ) (before : List Stretch) (b e t : ℕ) (line : Naive) → IsSegment points m before b e t line
+    → IsStraightFor t (arc points b e)
 arc_straight points m before b e t line s = record {
   some = let r = s.rises in omega (arith, length-arc points b e);
   no_turn = sense_no_turn t (arc points b e) s.sense;
@@ -36,7 +38,8 @@ arc_straight points m before b e t line s = record {
 halves : (k : ℕ) → ((2 * k) % 2 ≡ 0) × ((2 * k) / 2 ≡ k) × ((2 * k + 1) % 2 ≡ 1) × ((2 * k + 1) / 2 ≡ k)
 halves k = (omega arith, omega arith, omega arith, omega arith)
 
-pairs_get : (gaps : List GapFact) (k : ℕ) (g : GapFact × GapFact) → slice_get (in_pairs gaps) k ≡ Some g → (slice_get gaps (2 * k) ≡ Some g.0) × (slice_get gaps (2 * k + 1) ≡ Some g.1)
+pairs_get : (gaps : List GapFact) (k : ℕ) (g : GapFact × GapFact) → slice_get (in_pairs gaps) k ≡ Some g
+    → (slice_get gaps (2 * k) ≡ Some g.0) × (slice_get gaps (2 * k + 1) ≡ Some g.1)
 pairs_get [] k g e = cc
 pairs_get (a ∷ []) k g e = cc
 pairs_get (a ∷ b ∷ gaps) zero g e = (cc, cc)
@@ -57,7 +60,8 @@ pairs_length (a ∷ b ∷ gaps) (suc m) e = ap suc (pairs_length gaps m (omega a
 no_segment : Segment
 no_segment = record { stretch = record { first = 0; last = 0 }; axis = 0; line = record { a = []; mu = pos 0 } }
 
-module _ (number : ℕ) (points : List Point) (m : ℕ) (segments : List Segment) (shown : List Pairs) (last : Option Segment) (gaps : List GapFact) (c : CoverSoFar number points m segments shown last gaps) (some : 1 ≤ m) (many : length segments ≡ m) (all : length gaps ≡ 2 * m) where
+module _ (number : ℕ) (points : List Point) (m : ℕ) (segments : List Segment) (shown : List Pairs) (last : Option Segment) (gaps : List GapFact)
+    (c : CoverSoFar number points m segments shown last gaps) (some : 1 ≤ m) (many : length segments ≡ m) (all : length gaps ≡ 2 * m) where
   length-stretches : length (stretches_of segments) ≡ m
   length-stretches = length-map segments (λ (s : Segment). s.stretch) ∙ many
 
@@ -73,7 +77,8 @@ module _ (number : ℕ) (points : List Point) (m : ℕ) (segments : List Segment
   nth k h =
       let e = slice_get-get_or segments k no_segment (omega (arith, many)) in
       let s = get_or segments k no_segment in
-      let f : slice_get (stretches_of segments) k ≡ Some s.stretch = slice_get-map (λ (s : Segment). s.stretch) segments k ∙ ap (option_map (λ (s : Segment). s.stretch)) e in
+      let f : slice_get (stretches_of segments) k ≡ Some s.stretch = slice_get-map (λ (s : Segment). s.stretch) segments k
+      ∙ ap (option_map (λ (s : Segment). s.stretch)) e in
       record {
         segment = s;
         there = e;
@@ -84,10 +89,15 @@ module _ (number : ℕ) (points : List Point) (m : ℕ) (segments : List Segment
 
   -- the stretches before the k-th
   before_is : (k : ℕ) → k ≤ m → (stretches_of (take k segments) ≡ take k (stretches_of segments)) × (length (stretches_of (take k segments)) ≡ k)
-  before_is k h = (sym (take-map (λ (s : Segment). s.stretch) k segments), length-map (take k segments) (λ (s : Segment). s.stretch) ∙ length-take-le k segments (omega (arith, many)))
+  before_is k h = (
+    sym (take-map (λ (s : Segment). s.stretch) k segments),
+    length-map (take k segments) (λ (s : Segment). s.stretch)
+        ∙ length-take-le k segments (omega (arith, many)),
+  )
 
   -- the places rise from one segment to the next
-  rises : (k : ℕ) → k + 1 < m → ((stretch_at (stretches_of segments) k).first < (stretch_at (stretches_of segments) (k + 1)).first) × ((stretch_at (stretches_of segments) k).last < (stretch_at (stretches_of segments) (k + 1)).last)
+  rises : (k : ℕ) → k + 1 < m → ((stretch_at (stretches_of segments) k).first < (stretch_at (stretches_of segments) (k + 1)).first)
+      × ((stretch_at (stretches_of segments) k).last < (stretch_at (stretches_of segments) (k + 1)).last)
   rises k h =
       let s = nth k (omega arith) in
       let u = nth (k + 1) h in
@@ -96,7 +106,8 @@ module _ (number : ℕ) (points : List Point) (m : ℕ) (segments : List Segment
       let q : k + 1 ≡ suc k = omega arith in
       let e : slice_get (stretches_of (take (k + 1) segments)) (length (stretches_of (take (k + 1) segments)) - 1) ≡ Some s.segment.stretch =
       (λ i. slice_get (b.0 i) (n i)) ∙ ap (λ j. slice_get (take j (stretches_of segments)) k) q ∙ slice_get-taken (stretches_of segments) k ∙ s.stretch in
-      let a : (s.segment.stretch.first < u.segment.stretch.first) × (s.segment.stretch.last < u.segment.stretch.last) = subst (λ o. IfSome o (λ x. (x.first < u.segment.stretch.first) × (x.last < u.segment.stretch.last))) e u.listed.good.after in
+      let a : (s.segment.stretch.first < u.segment.stretch.first) × (s.segment.stretch.last < u.segment.stretch.last) =
+      subst (λ o. IfSome o (λ x. (x.first < u.segment.stretch.first) × (x.last < u.segment.stretch.last))) e u.listed.good.after in
       rw (s.at, u.at) a
 
   -- the last stretch ends before the first one does one round on
@@ -108,26 +119,35 @@ module _ (number : ℕ) (points : List Point) (m : ℕ) (segments : List Segment
       let x = s.segment.stretch in
       let h = s.listed.good.closes (omega (arith, b.1)) in
       let e : stretches_of (take k segments) ++ x ∷ [] ≡ stretches_of segments =
-      ap (λ l. l ++ x ∷ []) b.0 ∙ ap (λ z. take k (stretches_of segments) ++ z ∷ []) (sym s.at) ∙ sym (take_more (stretches_of segments) k (record { first = 0; last = 0 }) (omega (arith, length-stretches))) ∙ take_all (k + 1) (stretches_of segments) (omega (arith, length-stretches)) in
+      ap (λ l. l ++ x ∷ []) b.0 ∙ ap (λ z. take k (stretches_of segments) ++ z ∷ []) (sym s.at)
+      ∙ sym (take_more (stretches_of segments) k (record { first = 0; last = 0 }) (omega (arith, length-stretches)))
+      ∙ take_all (k + 1) (stretches_of segments) (omega (arith, length-stretches)) in
       let f : get_or (stretches_of (take k segments) ++ x ∷ []) 0 x ≡ stretch_at (stretches_of segments) 0 =
       ap (λ l. get_or l 0 x) e ∙ get_or_default (stretches_of segments) 0 x (record { first = 0; last = 0 }) (omega (arith, length-stretches)) in
-      let g : stretch_at (stretches_of segments) (length (stretches_of segments) - 1) ≡ x = ap (stretch_at (stretches_of segments)) (let q : length (stretches_of segments) - 1 ≡ k = omega (arith, length-stretches) in q) ∙ s.at in
+      let g : stretch_at (stretches_of segments) (length (stretches_of segments) - 1) ≡ x =
+      ap (stretch_at (stretches_of segments)) (let q : length (stretches_of segments) - 1 ≡ k = omega (arith, length-stretches) in q) ∙ s.at in
       let p = ap (λ (z : Stretch). z.last) f in
       let r = ap (λ (z : Stretch). z.last) g in
       omega arith
 
   -- the refusals of gap k
-  refused_at : (j k t : ℕ) → j % 2 ≡ t → j / 2 ≡ k → (f : GapFact) → slice_get gaps j ≡ Some f → (f.axis ≡ t) × RefusalShows (gap_run points (stretches_of segments) k) f × ((e : Evidence) × IsEvidence t (gap_run points (stretches_of segments) k) e)
+  refused_at : (j k t : ℕ) → j % 2 ≡ t → j / 2 ≡ k → (f : GapFact) → slice_get gaps j ≡ Some f
+      → (f.axis ≡ t) × RefusalShows (gap_run points (stretches_of segments) k) f × ((e : Evidence) × IsEvidence t (gap_run points (stretches_of segments) k) e)
   refused_at j k t p q f there =
       let r = c.refused j f there in
       let a : f.axis ≡ t = r.axis ∙ p in (
         a,
         subst (λ i. RefusalShows (gap_run points (stretches_of segments) i) f) q r.shows,
-        (r.evidence, subst (λ i. IsEvidence t (gap_run points (stretches_of segments) i) r.evidence) q (subst (λ i. IsEvidence i (gap_run points (stretches_of segments) (j / 2)) r.evidence) a r.good)),
+        (
+          r.evidence,
+          subst (λ i. IsEvidence t (gap_run points (stretches_of segments) i) r.evidence) q
+              (subst (λ i. IsEvidence i (gap_run points (stretches_of segments) (j / 2)) r.evidence) a r.good),
+        ),
       )
 
   evidence_at : (j k t : ℕ) → j % 2 ≡ t → j / 2 ≡ k → j < 2 * m → (e : Evidence) × IsEvidence t (gap_run points (stretches_of segments) k) e
-  evidence_at j k t p q h = let d : GapFact = record { axis = 0; kind = GapKind.ByTurn } in (refused_at j k t p q (get_or gaps j d) (slice_get-get_or gaps j d (omega (arith, all)))).2
+  evidence_at j k t p q h = let d : GapFact = record { axis = 0; kind = GapKind.ByTurn } in
+      (refused_at j k t p q (get_or gaps j d) (slice_get-get_or gaps j d (omega (arith, all)))).2
 
   gapped : AreGapped points (stretches_of segments)
   gapped = record {
@@ -139,7 +159,8 @@ module _ (number : ℕ) (points : List Point) (m : ℕ) (segments : List Segment
     straight = λ k h.
         let s = nth k (omega (arith, length-stretches)) in
         let g = s.listed.good in
-        rw s.at (straight_for s.segment.axis (arc points s.segment.stretch.first s.segment.stretch.last) s.listed.axis (arc_straight points m (stretches_of (take k segments)) s.segment.stretch.first s.segment.stretch.last s.segment.axis s.segment.line g));
+        rw s.at (straight_for s.segment.axis (arc points s.segment.stretch.first s.segment.stretch.last) s.listed.axis
+        (arc_straight points m (stretches_of (take k segments)) s.segment.stretch.first s.segment.stretch.last s.segment.axis s.segment.line g));
     evidence_x = λ k h. (let a = halves k in evidence_at (2 * k) k 0 a.0 a.1 (omega (arith, length-stretches)));
     evidence_y = λ k h. (let a = halves k in evidence_at (2 * k + 1) k 1 a.2 a.3 (omega (arith, length-stretches)));
   }
@@ -170,7 +191,8 @@ module _ (number : ℕ) (points : List Point) (m : ℕ) (segments : List Segment
       shows_least s.axis (arc points s.stretch.first s.stretch.last) s.line pairs.0 (segment_shows k h).line pairs.1
 
   -- the contour is shown
-  pub cover_shows : (start : Crack) → ContourShows number (record { outline = record { start = start; points = points }; segments = segments; evidence = shown; gaps = in_pairs gaps })
+  pub cover_shows : (start : Crack)
+      → ContourShows number (record { outline = record { start = start; points = points }; segments = segments; evidence = shown; gaps = in_pairs gaps })
   cover_shows start = record {
     cover = covers points (stretches_of segments) gapped;
     lines = All-from_get_or (SegmentShows points) segments no_segment segment_shows;

@@ -30,7 +30,8 @@ use Rattle.report_terms.proofs.SectionLaws.{complete_kept, facts_of_section, cla
 -- ---- the heading
 
 -- good lines in which the heading names a rule begin with it, and it gives the sides of the picture
-lines_begin : (X : Subject) (lines : List Line) (rule : Rule) → GoodSoFar X lines → NamesRule X.shelf (lines_of Section.Heading lines) rule → BeginsWithHeading X.picture lines (number_of (lines_of Section.Heading lines))
+lines_begin : (X : Subject) (lines : List Line) (rule : Rule) → GoodSoFar X lines → NamesRule X.shelf (lines_of Section.Heading lines) rule
+    → BeginsWithHeading X.picture lines (number_of (lines_of Section.Heading lines))
 lines_begin X lines rule good names =
     let h = names.heading in
     let first = heading_first X lines (Line.Shape h) good names.first_is in
@@ -61,9 +62,11 @@ no_counts (Line.Parts n o b) e = cc
 no_counts _ e = refl
 
 -- good lines with one line of counts say the counts of the picture once
-lines_parts : (X : Subject) (lines : List Line) → GoodSoFar X lines → IsComplete X Section.Heading lines → IsComplete X Section.Counted lines → ShowsParts X.picture (filter_map parts_fact lines)
+lines_parts : (X : Subject) (lines : List Line) → GoodSoFar X lines → IsComplete X Section.Heading lines → IsComplete X Section.Counted lines
+    → ShowsParts X.picture (filter_map parts_fact lines)
 lines_parts X lines good one e =
-    subst (ShowsParts X.picture) (sym (facts_of_section Section.Counted parts_fact no_counts lines)) (shown (lines_of Section.Counted lines) e (λ l h. says_counts X.picture l (claims_of_section X Section.Counted lines (omega arith) good one 0 l h).1))
+    subst (ShowsParts X.picture) (sym (facts_of_section Section.Counted parts_fact no_counts lines))
+    (shown (lines_of Section.Counted lines) e (λ l h. says_counts X.picture l (claims_of_section X Section.Counted lines (omega arith) good one 0 l h).1))
   where
     shown : (ls : List Line) → length ls ≡ 1 → ((l : Line) → slice_get ls 0 ≡ Some l → SaysCounts X.picture l) → ShowsParts X.picture (filter_map parts_fact ls)
     shown [] e h = absurd (omega arith)
@@ -93,14 +96,16 @@ no_near _ e = refl
 abbrev AreFacts : Picture → List Point → List NearFact → Type 0
 AreFacts X points facts = (map (λ f. f.p) facts ≡ points) × All (λ f. Least X f.p f.q f.s) facts
 
-near_facts : (X : Picture) (lines : List Line) (points : List Point) → length lines ≡ length points → ((j : ℕ) (l : Line) → slice_get lines j ≡ Some l → SaysNear X points j l) → AreFacts X points (filter_map near_fact lines)
+near_facts : (X : Picture) (lines : List Line) (points : List Point) → length lines ≡ length points
+    → ((j : ℕ) (l : Line) → slice_get lines j ≡ Some l → SaysNear X points j l) → AreFacts X points (filter_map near_fact lines)
 near_facts X [] [] e h = (refl, All-nil (λ f. Least X f.p f.q f.s))
 near_facts X [] (p ∷ points) e h = absurd (omega arith)
 near_facts X (l ∷ lines) [] e h = absurd (omega arith)
 near_facts X (l ∷ lines) (p ∷ points) e h =
     let s = h 0 l refl in
     let same : s.fact.p ≡ p = let k = s.point in cc in
-    let rest = near_facts X lines points (omega arith) (λ j m k. let n = h (suc j) m k in record { fact = n.fact; says = n.says; point = n.point; least = n.least }) in
+    let rest = near_facts X lines points (omega arith)
+    (λ j m k. let n = h (suc j) m k in record { fact = n.fact; says = n.says; point = n.point; least = n.least }) in
     subst (λ o. AreFacts X (p ∷ points) (cons_option o (filter_map near_fact lines))) (sym s.says)
     ((λ i. same i ∷ rest.0 i), All-cons (λ f. Least X f.p f.q f.s) s.fact (filter_map near_fact lines) s.least rest.1)
 
@@ -110,26 +115,33 @@ length_below (m ∷ lines) zero l e = refl
 length_below (m ∷ lines) (suc j) l e = ap suc (length_below lines j l e)
 
 -- good lines in which each object point has its `near` line make the field
-lines_field : (X : Subject) (lines : List Line) → GoodSoFar X lines → IsComplete X Section.Heading lines → IsComplete X Section.Nearest lines → IsField X.picture (filter_map near_fact lines)
+lines_field : (X : Subject) (lines : List Line) → GoodSoFar X lines → IsComplete X Section.Heading lines → IsComplete X Section.Nearest lines
+    → IsField X.picture (filter_map near_fact lines)
 lines_field X lines good one e =
     let nears = lines_of Section.Nearest lines in
     let points = object_points X.picture in
-    let facts = near_facts X.picture nears points e (λ j l m. subst (λ k. SaysNear X.picture points k l) (length_below nears j l m) (says_near X.picture (take j nears) l (claims_of_section X Section.Nearest lines (omega arith) good one j l m))) in
+    let facts = near_facts X.picture nears points e
+    (λ j l m. subst (λ k. SaysNear X.picture points k l) (length_below nears j l m)
+    (says_near X.picture (take j nears) l (claims_of_section X Section.Nearest lines (omega arith) good one j l m))) in
     subst (IsField X.picture) (sym (facts_of_section Section.Nearest near_fact no_near lines)) (record { points = facts.0; least = facts.1 })
 
 -- ---- contours
 
 -- each line of a contour is good after the lines of contours before it
-contours_good : (X : Subject) (lines : List Line) → All (IsLineOf (length X.picture.sides)) lines → GoodSoFar X lines → IsComplete X Section.Heading lines → (j : ℕ) (l : Line) → slice_get (lines_of Section.Contours lines) j ≡ Some l
+contours_good : (X : Subject) (lines : List Line) → All (IsLineOf (length X.picture.sides)) lines → GoodSoFar X lines → IsComplete X Section.Heading lines
+    → (j : ℕ) (l : Line) → slice_get (lines_of Section.Contours lines) j ≡ Some l
     → IsLineOf (length X.picture.sides) l × ContourClaim (number_of (lines_of Section.Heading lines)) X.picture (take j (lines_of Section.Contours lines)) l
 contours_good X lines fields good one j l e =
-    let s = stood (λ m. rank (section_of m) == 3) lines j l e in
-    (subst (IsLineOf (length X.picture.sides)) (get_or_from_slice_get lines s.place l l s.there) (fields s.place l (slice_get_within lines s.place l s.there)), (claims_of_section X Section.Contours lines (omega arith) good one j l e).1)
+    let s = stood (λ m. rank (section_of m) == 3) lines j l e in (
+      subst (IsLineOf (length X.picture.sides)) (get_or_from_slice_get lines s.place l l s.there) (fields s.place l (slice_get_within lines s.place l s.there)),
+      (claims_of_section X Section.Contours lines (omega arith) good one j l e).1,
+    )
 
 -- ---- faces
 
 -- each line of a face is good after the lines of faces before it
-faces_good : (X : Subject) (lines : List Line) → GoodSoFar X lines → IsComplete X Section.Heading lines → (j : ℕ) (l : Line) → slice_get (lines_of Section.Faces lines) j ≡ Some l → FaceClaim X.picture (take j (lines_of Section.Faces lines)) l
+faces_good : (X : Subject) (lines : List Line) → GoodSoFar X lines → IsComplete X Section.Heading lines → (j : ℕ) (l : Line)
+    → slice_get (lines_of Section.Faces lines) j ≡ Some l → FaceClaim X.picture (take j (lines_of Section.Faces lines)) l
 faces_good X lines good one j l e = (claims_of_section X Section.Faces lines (omega arith) good one j l e).1
 
 -- ---- the thinning
@@ -148,17 +160,23 @@ no_kept _ e = refl
 lines_thinned : (X : Subject) (lines : List Line) → GoodSoFar X lines → IsComplete X Section.Heading lines → IsComplete X Section.Thinned lines
     → (rule : Rule) × NamesRule X.shelf (lines_of Section.Heading lines) rule × ThinningShows X.picture rule (events_of lines) (kept_facts lines)
 lines_thinned X lines good one e =
-    let t = thinning_shown X (lines_of Section.Heading lines) (lines_of Section.Thinned lines) (claims_of_section X Section.Thinned lines (omega arith) good one) e in
+    let t = thinning_shown X (lines_of Section.Heading lines) (lines_of Section.Thinned lines)
+    (claims_of_section X Section.Thinned lines (omega arith) good one) e in
     let events = facts_of_section Section.Thinned event_of no_event lines in
-    let kept = facts_of_section Section.Thinned kept_fact no_kept lines in
-    (t.0, t.1, subst (λ es. ThinningShows X.picture t.0 es (kept_facts lines)) (sym events) (subst (ThinningShows X.picture t.0 (events_of (lines_of Section.Thinned lines))) (sym kept) t.2))
+    let kept = facts_of_section Section.Thinned kept_fact no_kept lines in (
+      t.0,
+      t.1,
+      subst (λ es. ThinningShows X.picture t.0 es (kept_facts lines)) (sym events)
+          (subst (ThinningShows X.picture t.0 (events_of (lines_of Section.Thinned lines))) (sym kept) t.2),
+    )
 
 -- ---- the whole report
 
 pub holds_shows : (X : Subject) (text : List ℕ) → Holds X text → TextShows X text
 holds_shows X text (lines, b) =
     let all = lines ++ Line.End ∷ [] in
-    let come : HasCome X Section.End lines = subst (HasCome X Section.End) (take_front lines (Line.End ∷ [])) (b.good (length lines) Line.End (get_last lines Line.End)).come in
+    let come : HasCome X Section.End lines = subst (HasCome X Section.End) (take_front lines (Line.End ∷ []))
+    (b.good (length lines) Line.End (get_last lines Line.End)).come in
     let complete : (s : Section) → rank s < rank Section.End → IsComplete X s all = λ s h. complete_kept X lines Line.End s h (come.complete s h) in
     let one = complete Section.Heading (omega arith) in
     let parts = lines_parts X all b.good one (complete Section.Counted (omega arith)) in
@@ -173,7 +191,8 @@ holds_shows X text (lines, b) =
       shows = record {
         parts = parts;
         nears = lines_field X all b.good one (complete Section.Nearest (omega arith));
-        contours = λ flat. lines_contours (number_of (lines_of Section.Heading all)) X.picture (length X.picture.sides) (lines_of Section.Contours all) (contours_good X all b.fields b.good one) ((complete Section.Contours (omega arith)).flat flat);
+        contours = λ flat. lines_contours (number_of (lines_of Section.Heading all)) X.picture (length X.picture.sides) (lines_of Section.Contours all)
+            (contours_good X all b.fields b.good one) ((complete Section.Contours (omega arith)).flat flat);
         faces = λ solid. lines_faces X.picture (lines_of Section.Faces all) (faces_good X all b.good one) ((complete Section.Faces (omega arith)).solid solid);
         thinning = thinned.2;
         same = left_tells_parts thinned.0 X.picture _ _ _ thinned.2 parts;

@@ -1,4 +1,5 @@
--- Of the least lines of a run along which the other coordinate goes one way by one: no line of either axis has a lesser main coefficient, and two of them have one direction.
+-- Of the least lines of a run along which the other coordinate goes one way by one: no line of either axis has a lesser main coefficient, and two of them have
+-- one direction.
 -- Lists of points alone; contours belong elsewhere.
 use Rattle.std.proofs.Common.{◌≡◌, ◌⊎◌, inl, inr, ℕ, zero, suc, ◌+◌, ◌-◌, ◌<◌, List, length, sym, ap, ◌∙◌, arith}
 use Rattle.std.specs.Prelude.{ℤ, pos, negsuc, neg_ℤ, ◌≤ℤ◌}
@@ -31,14 +32,16 @@ sense_steps t run (inr h) i l = inr (h i l)
 module _ (run : List Point) (flat : (i : ℕ) → i < length run → length (point_at run i) ≡ 2) where
   -- ---- the least of all lines
 
-  least_of_other : (t : ℕ) → t < 2 → KeepsSense t run → (n m : Naive) → IsLeastLine t run n → IsNaiveFor (1 - t) run m → coordinate n.a t ≤ℤ coordinate m.a (1 - t)
+  least_of_other : (t : ℕ) → t < 2 → KeepsSense t run → (n m : Naive) → IsLeastLine t run n → IsNaiveFor (1 - t) run m
+      → coordinate n.a t ≤ℤ coordinate m.a (1 - t)
   least_of_other t l sense n m h k =
       let e = least_diagonal t run l flat (sense_steps t run sense) n m h.line k h in
       let some = k.proper.main in
       omega (arith, ints, e, some)
 
   -- no proper naive line of either axis that holds the run has a lesser main coefficient
-  pub least_of_all : (t u : ℕ) → t < 2 → u < 2 → KeepsSense t run → (n m : Naive) → IsLeastLine t run n → IsNaiveFor u run m → coordinate n.a t ≤ℤ coordinate m.a u
+  pub least_of_all : (t u : ℕ) → t < 2 → u < 2 → KeepsSense t run → (n m : Naive) → IsLeastLine t run n → IsNaiveFor u run m
+      → coordinate n.a t ≤ℤ coordinate m.a u
   least_of_all zero zero l d sense n m h k = h.least m k
   least_of_all zero (suc zero) l d sense n m h k = least_of_other 0 l sense n m h k
   least_of_all (suc zero) zero l d sense n m h k = least_of_other 1 l sense n m h k
@@ -49,7 +52,8 @@ module _ (run : List Point) (flat : (i : ℕ) → i < length run → length (poi
   -- ---- one direction
 
   -- along a diagonal step the line of the one axis and that of the other have the slope that it tells
-  along : (c e s d : ℤ) → (s ≡ pos 1) ⊎ (s ≡ negsuc 0) → (d ≡ pos 1) ⊎ (d ≡ negsuc 0) → (s ≡ pos 1 → c ≡ neg_ℤ d) × (s ≡ negsuc 0 → c ≡ d) → (d ≡ pos 1 → e ≡ neg_ℤ s) × (d ≡ negsuc 0 → e ≡ s)
+  along : (c e s d : ℤ) → (s ≡ pos 1) ⊎ (s ≡ negsuc 0) → (d ≡ pos 1) ⊎ (d ≡ negsuc 0) → (s ≡ pos 1 → c ≡ neg_ℤ d) × (s ≡ negsuc 0 → c ≡ d)
+      → (d ≡ pos 1 → e ≡ neg_ℤ s) × (d ≡ negsuc 0 → e ≡ s)
       → ((c ≡ pos 1) × (e ≡ pos 1)) ⊎ ((c ≡ negsuc 0) × (e ≡ negsuc 0))
   along c e s d (inl x) (inl y) f g = inr (f.0 x ∙ ap neg_ℤ y, g.0 y ∙ ap neg_ℤ x)
   along c e s d (inl x) (inr y) f g = inl (f.0 x ∙ ap neg_ℤ y, g.1 y ∙ x)
@@ -70,7 +74,8 @@ module _ (run : List Point) (flat : (i : ℕ) → i < length run → length (poi
       ]
 
   -- two least lines, each of an axis along which the run keeps its sense
-  pub one_direction : (t u : ℕ) → t < 2 → u < 2 → KeepsSense t run → KeepsSense u run → (n m : Naive) → IsLeastLine t run n → IsLeastLine u run m → 1 < length run → AreParallel n.a m.a
+  pub one_direction : (t u : ℕ) → t < 2 → u < 2 → KeepsSense t run → KeepsSense u run → (n m : Naive) → IsLeastLine t run n → IsLeastLine u run m
+      → 1 < length run → AreParallel n.a m.a
   one_direction zero zero l d st su n m h k two = let e = least_once 0 run l flat (sense_steps 0 run st) n m h k two in AreParallel.Equal e.0 e.1
   one_direction zero (suc zero) l d st su n m h k two = crossed st su n m h k two
   one_direction (suc zero) zero l d st su n m h k two = parallel_back m.a n.a (crossed su st m n k h two)

@@ -20,7 +20,8 @@ is_form d Kind.Parts = both_form _ _ count_form (both_form _ _ count_form count_
 is_form d Kind.Near = both_form _ _ (point_form d) (both_form _ _ (point_form d) weight_form)
 is_form d Kind.Contour = axes_form 2 d _ (both_form _ _ (point_form 2) (both_form _ _ (natural_form 4 (lit≤ tt)) (both_form _ _ count_form count_form)))
 is_form d Kind.At = axes_form 2 d _ (point_form 2)
-is_form d Kind.Seg = axes_form 2 d _ (both_form _ _ count_form (both_form _ _ count_form (both_form _ _ (letter_form 2) (both_form _ _ (row_form 2) long_form))))
+is_form d Kind.Seg = axes_form 2 d _
+    (both_form _ _ count_form (both_form _ _ count_form (both_form _ _ (letter_form 2) (both_form _ _ (row_form 2) long_form))))
 is_form d Kind.Least = axes_form 2 d _ (both_form _ _ count_form (both_form _ _ count_form (both_form _ _ count_form count_form)))
 is_form d Kind.Turn = axes_form 2 d _ (both_form _ _ (letter_form 2) (both_form _ _ count_form count_form))
 is_form d Kind.Cut = axes_form 2 d _ (both_form _ _ (letter_form 2) (why_form 2))

@@ -38,7 +38,8 @@ least_value v (suc n) =
 abbrev pub IsNarrow : ℕ → List Point → List ℤ → Type 0
 IsNarrow t run a = (i j : ℕ) → i < length run → j < length run → (dot a (point_at run j) -ℤ dot a (point_at run i)) <ℤ coordinate a t
 
-pub some_line : (t : ℕ) (run : List Point) (a : List ℤ) → IsProper t (record { a = a; mu = pos 0 }) → IsNarrow t run a → (mu : ℤ) × IsNaiveFor t run (record { a = a; mu = mu })
+pub some_line : (t : ℕ) (run : List Point) (a : List ℤ) → IsProper t (record { a = a; mu = pos 0 }) → IsNarrow t run a
+    → (mu : ℤ) × IsNaiveFor t run (record { a = a; mu = mu })
 some_line t [] a proper narrow = (pos 0, record { proper = proper; holds = All-nil (HoldsPoint t (record { a = a; mu = pos 0 })) })
 some_line t (p ∷ run) a proper narrow =
     let v : ℕ → ℤ = λ i. dot a (point_at (p ∷ run) i) in

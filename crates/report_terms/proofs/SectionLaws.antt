@@ -1,6 +1,7 @@
 -- The laws of sections, by their ranks: no law has a clause for a kind of line or a section.
 -- What a section's lines claim is no matter here.
-use Rattle.std.proofs.Common.{◌≡◌, inl, inr, ℕ, suc, ◌≤◌, ◌<◌, false, Option, Some, None, refl, ap, sym, ◌∙◌, subst, arith, List, [], ◌∷◌, ◌++◌, length, take, drop, get_or}
+use Rattle.std.proofs.Common.{◌≡◌, inl, inr, ℕ, suc, ◌≤◌, ◌<◌, false, Option, Some, None, refl, ap, sym, ◌∙◌, subst, arith, List, [], ◌∷◌, ◌++◌, length, take}
+use Rattle.std.proofs.Common.{drop, get_or}
 use Rattle.std.specs.Prelude.{All, ◌==◌, filter_map, slice_get}
 use Rattle.std.proofs.lemmas.Bool.{cond-true, cond-false, eqb-true, eq-eqb, ne_eqb, cases_Bool, cases_lt}
 use Rattle.std.specs.List.{cons_option}
@@ -10,7 +11,8 @@ use Rattle.text_terms.specs.Reports.{IsReport}
 use Rattle.report_terms.specs.Subjects.{Subject}
 use Rattle.report_terms.specs.Lines.{Line}
 use Rattle.report_terms.proofs.SectionLines.{stood}
-use Rattle.report_terms.specs.Sections.{Section, sections, rank, section_of, lines_of, SectionClaim, SectionComplete, IsComplete, HasCome, GoodAfter, GoodSoFar, analysis}
+use Rattle.report_terms.specs.Sections.{Section, sections, rank, section_of, lines_of, SectionClaim, SectionComplete, IsComplete, HasCome, GoodAfter, GoodSoFar}
+use Rattle.report_terms.specs.Sections.{analysis}
 
 -- ---- ranks
 
@@ -35,14 +37,18 @@ rank_most _ = omega arith
 
 pub lines_push : (s : Section) (lines : List Line) (l : Line) → section_of l ≡ s → lines_of s (lines ++ l ∷ []) ≡ lines_of s lines ++ l ∷ []
 lines_push s lines l e =
-    filter-append (λ m. rank (section_of m) == rank s) lines (l ∷ []) ∙ ap (λ ls. lines_of s lines ++ ls) (cond-true (rank (section_of l) == rank s) (l ∷ []) [] (eq-eqb _ _ (ap rank e)))
+    filter-append (λ m. rank (section_of m) == rank s) lines (l ∷ [])
+    ∙ ap (λ ls. lines_of s lines ++ ls) (cond-true (rank (section_of l) == rank s) (l ∷ []) [] (eq-eqb _ _ (ap rank e)))
 
 pub lines_skip : (s : Section) (lines : List Line) (l : Line) → rank s < rank (section_of l) → lines_of s (lines ++ l ∷ []) ≡ lines_of s lines
 lines_skip s lines l h =
-    filter-append (λ m. rank (section_of m) == rank s) lines (l ∷ []) ∙ ap (λ ls. lines_of s lines ++ ls) (cond-false (rank (section_of l) == rank s) (l ∷ []) [] (ne_eqb _ _ (λ e. omega (arith, h, e)))) ∙ append-nil (lines_of s lines)
+    filter-append (λ m. rank (section_of m) == rank s) lines (l ∷ [])
+    ∙ ap (λ ls. lines_of s lines ++ ls) (cond-false (rank (section_of l) == rank s) (l ∷ []) [] (ne_eqb _ _ (λ e. omega (arith, h, e))))
+    ∙ append-nil (lines_of s lines)
 
 -- an earlier section stays as it is
-pub complete_kept : (X : Subject) (lines : List Line) (l : Line) (s : Section) → rank s < rank (section_of l) → IsComplete X s lines → IsComplete X s (lines ++ l ∷ [])
+pub complete_kept : (X : Subject) (lines : List Line) (l : Line) (s : Section) → rank s < rank (section_of l) → IsComplete X s lines
+    → IsComplete X s (lines ++ l ∷ [])
 complete_kept X lines l s h c = subst (SectionComplete X s) (sym (lines_skip s lines l h)) c
 
 -- ---- how far the lines have come
@@ -63,15 +69,23 @@ come_more X s lines l h e =
 pub come_past : (X : Subject) (s t : Section) (lines : List Line) → rank t ≡ suc (rank s) → HasCome X s lines → IsComplete X s lines → HasCome X t lines
 come_past X s t lines e h c = record {
   order = λ i d m. let o = h.order i d m in omega (arith, o, e);
-  complete = λ u m. elim (cases_lt (rank u) (rank s)) [ inl l ↦ h.complete u l | inr l ↦ subst (λ v. IsComplete X v lines) (rank_same s u (omega (arith, l, m, e))) c ];
+  complete = λ u m. elim (cases_lt (rank u) (rank s))
+      [ inl l ↦ h.complete u l | inr l ↦ subst (λ v. IsComplete X v lines) (rank_same s u (omega (arith, l, m, e))) c ];
 }
 
 -- a line of the section that the lines have come to is good where its claim is true
-pub good_at : (X : Subject) (s : Section) (lines : List Line) (l : Line) → HasCome X s lines → section_of l ≡ s → SectionClaim X (lines_of Section.Heading lines) s (lines_of s lines) l → GoodAfter X lines l
-good_at X s lines l h e c = record { come = subst (λ t. HasCome X t lines) (sym e) h; claim = subst (λ t. SectionClaim X (lines_of Section.Heading lines) t (lines_of t lines) l) (sym e) c }
+pub good_at : (X : Subject) (s : Section) (lines : List Line) (l : Line) → HasCome X s lines → section_of l ≡ s
+    → SectionClaim X (lines_of Section.Heading lines) s (lines_of s lines) l → GoodAfter X lines l
+good_at X s lines l h e c =
+    record {
+      come = subst (λ t. HasCome X t lines) (sym e) h;
+      claim = subst (λ t. SectionClaim X (lines_of Section.Heading lines) t (lines_of t lines) l)
+          (sym e) c;
+    }
 
 -- and its claim is true where it is good
-pub claim_at : (X : Subject) (s : Section) (lines : List Line) (l : Line) → section_of l ≡ s → GoodAfter X lines l → SectionClaim X (lines_of Section.Heading lines) s (lines_of s lines) l
+pub claim_at : (X : Subject) (s : Section) (lines : List Line) (l : Line) → section_of l ≡ s → GoodAfter X lines l
+    → SectionClaim X (lines_of Section.Heading lines) s (lines_of s lines) l
 claim_at X s lines l e g = subst (λ t. SectionClaim X (lines_of Section.Heading lines) t (lines_of t lines) l) e g.claim
 
 -- ---- the last line
@@ -97,11 +111,14 @@ is_report X = record { ends = none_after_end X }
 -- ---- facts
 
 -- what is read off lines is read off the lines of its section
-pub facts_of_section : {F : Type 0} (s : Section) (f : Line → Option F) → ((l : Line) → (rank (section_of l) == rank s) ≡ false → f l ≡ None) → (lines : List Line) → filter_map f lines ≡ filter_map f (lines_of s lines)
+pub facts_of_section : {F : Type 0} (s : Section) (f : Line → Option F) → ((l : Line) → (rank (section_of l) == rank s) ≡ false → f l ≡ None)
+    → (lines : List Line) → filter_map f lines ≡ filter_map f (lines_of s lines)
 facts_of_section s f h [] = refl
 facts_of_section s f h (l ∷ lines) = elim (cases_Bool (rank (section_of l) == rank s)) [
-  | inl t ↦ step f l lines (lines_of s lines) (facts_of_section s f h lines) ∙ ap (filter_map f) (sym (cond-true (rank (section_of l) == rank s) (l ∷ lines_of s lines) (lines_of s lines) t))
-  | inr e ↦ skip f l lines (h l e) ∙ facts_of_section s f h lines ∙ ap (filter_map f) (sym (cond-false (rank (section_of l) == rank s) (l ∷ lines_of s lines) (lines_of s lines) e))
+  | inl t ↦ step f l lines (lines_of s lines) (facts_of_section s f h lines)
+      ∙ ap (filter_map f) (sym (cond-true (rank (section_of l) == rank s) (l ∷ lines_of s lines) (lines_of s lines) t))
+  | inr e ↦ skip f l lines (h l e) ∙ facts_of_section s f h lines
+      ∙ ap (filter_map f) (sym (cond-false (rank (section_of l) == rank s) (l ∷ lines_of s lines) (lines_of s lines) e))
 ]
   where
     step : {F : Type 0} (f : Line → Option F) (l : Line) (xs ys : List Line) → filter_map f xs ≡ filter_map f ys → filter_map f (l ∷ xs) ≡ filter_map f (l ∷ ys)
@@ -111,10 +128,13 @@ facts_of_section s f h (l ∷ lines) = elim (cases_Bool (rank (section_of l) == 
     skip f l xs e = ap (λ o. cons_option o (filter_map f xs)) e
 
 -- one line of a section alone stands at the front
-front_alone : (s : Section) (lines : List Line) (k : ℕ) → length (lines_of s (take k lines)) ≡ 1 → length (lines_of s lines) ≡ 1 → lines_of s (take k lines) ≡ lines_of s lines
+front_alone : (s : Section) (lines : List Line) (k : ℕ) → length (lines_of s (take k lines)) ≡ 1 → length (lines_of s lines) ≡ 1
+    → lines_of s (take k lines) ≡ lines_of s lines
 front_alone s lines k e f =
-    let parts : lines_of s lines ≡ lines_of s (take k lines) ++ lines_of s (drop k lines) = ap (lines_of s) (sym (take-append-drop k lines)) ∙ filter-append (λ m. rank (section_of m) == rank s) (take k lines) (drop k lines) in
-    let none = empty (lines_of s (drop k lines)) (omega (arith, e, f, ap length parts, length-append (lines_of s (take k lines)) (lines_of s (drop k lines)))) in
+    let parts : lines_of s lines ≡ lines_of s (take k lines) ++ lines_of s (drop k lines) = ap (lines_of s) (sym (take-append-drop k lines))
+    ∙ filter-append (λ m. rank (section_of m) == rank s) (take k lines) (drop k lines) in
+    let none = empty (lines_of s (drop k lines)) (omega (arith, e, f, ap length parts, length-append (lines_of s (take k lines)) (lines_of s (drop k lines))))
+    in
     sym (append-nil (lines_of s (take k lines))) ∙ ap (λ ls. lines_of s (take k lines) ++ ls) (sym none) ∙ sym parts
   where
     empty : (ls : List Line) → length ls ≡ 0 → ls ≡ []
@@ -122,7 +142,8 @@ front_alone s lines k e f =
     empty (l ∷ ls) h = absurd (omega arith)
 
 -- each line of a section makes the section's claim after the heading and those of the section before it
-pub claims_of_section : (X : Subject) (s : Section) (lines : List Line) → 0 < rank s → GoodSoFar X lines → IsComplete X Section.Heading lines → (j : ℕ) (l : Line) → slice_get (lines_of s lines) j ≡ Some l
+pub claims_of_section : (X : Subject) (s : Section) (lines : List Line) → 0 < rank s → GoodSoFar X lines → IsComplete X Section.Heading lines
+    → (j : ℕ) (l : Line) → slice_get (lines_of s lines) j ≡ Some l
     → SectionClaim X (lines_of Section.Heading lines) s (take j (lines_of s lines)) l
 claims_of_section X s lines past good one j l e =
     let p = stood (λ m. rank (section_of m) == rank s) lines j l e in
@@ -130,11 +151,13 @@ claims_of_section X s lines past good one j l e =
     let g = good p.place l p.there in
     let first = g.come.complete Section.Heading (omega (arith, past, ap rank same)) in
     subst (λ ls. SectionClaim X (lines_of Section.Heading lines) s ls l) p.before
-    (subst (λ h. SectionClaim X h s (lines_of s (take p.place lines)) l) (front_alone Section.Heading lines p.place first one) (claim_at X s (take p.place lines) l same g))
+    (subst (λ h. SectionClaim X h s (lines_of s (take p.place lines)) l) (front_alone Section.Heading lines p.place first one)
+    (claim_at X s (take p.place lines) l same g))
 
 -- no line of a section past s stands among lines that have come to s
 pub none_past : (s t : Section) (lines : List Line) → rank s < rank t → All (λ e. rank (section_of e) ≤ rank s) lines → lines_of t lines ≡ []
 none_past s t [] h a = refl
 none_past s t (l ∷ lines) h a =
     let o = All-head (λ e. rank (section_of e) ≤ rank s) l lines a in
-    cond-false (rank (section_of l) == rank t) (l ∷ lines_of t lines) (lines_of t lines) (ne_eqb _ _ (λ e. omega (arith, o, h, e))) ∙ none_past s t lines h (All-tail (λ e. rank (section_of e) ≤ rank s) l lines a)
+    cond-false (rank (section_of l) == rank t) (l ∷ lines_of t lines) (lines_of t lines) (ne_eqb _ _ (λ e. omega (arith, o, h, e)))
+    ∙ none_past s t lines h (All-tail (λ e. rank (section_of e) ≤ rank s) l lines a)

@@ -17,7 +17,8 @@ kept test y xs t = cond-true (test y) (y ∷ filter test xs) (filter test xs) t
 left_out : {A : Type 0} (test : A → Bool) (y : A) (xs : List A) → test y ≡ false → filter test (y ∷ xs) ≡ filter test xs
 left_out test y xs f = cond-false (test y) (y ∷ filter test xs) (filter test xs) f
 
-stood_kept : {A : Type 0} (test : A → Bool) (y : A) (xs : List A) (j : ℕ) (x : A) → IsTrue (test y) → ((i : ℕ) → slice_get (filter test xs) i ≡ Some x → Stood test xs i x) → slice_get (y ∷ filter test xs) j ≡ Some x → Stood test (y ∷ xs) j x
+stood_kept : {A : Type 0} (test : A → Bool) (y : A) (xs : List A) (j : ℕ) (x : A) → IsTrue (test y)
+    → ((i : ℕ) → slice_get (filter test xs) i ≡ Some x → Stood test xs i x) → slice_get (y ∷ filter test xs) j ≡ Some x → Stood test (y ∷ xs) j x
 stood_kept test y xs zero x t h e =
     let same : y ≡ x = cc in
     record { place = 0; there = e; before = refl; passes = ap test (sym same) ∙ t }

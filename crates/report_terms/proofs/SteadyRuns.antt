@@ -1,4 +1,5 @@
--- The least lines of a run along which the other coordinate goes one way by one: those of one axis are one, and where a line of the other axis holds the run too, they are diagonal.
+-- The least lines of a run along which the other coordinate goes one way by one: those of one axis are one, and where a line of the other axis holds the run
+-- too, they are diagonal.
 -- Lists of points alone; contours belong elsewhere.
 use Rattle.std.proofs.Common.{◌≡◌, ◌⊎◌, inl, inr, ℕ, zero, suc, ◌+◌, ◌<◌, List, [], ◌∷◌, length, refl, sym, ◌∙◌, subst, arith}
 use Rattle.std.specs.Prelude.{◌≢◌, ℤ, pos, negsuc, ◌+ℤ◌, ◌-ℤ◌, ◌*ℤ◌, neg_ℤ, ◌≤ℤ◌, ◌<ℤ◌, nat_abs}
@@ -65,26 +66,33 @@ module _ (t : ℕ) (run : List Point) (l : t < 2) (flat : (i : ℕ) → i < leng
   abbrev main : (i j : ℕ) → ℤ
   main i j = coordinate (point_at run j) t -ℤ coordinate (point_at run i) t
 
-  rise : (a : List ℤ) (i j : ℕ) → i < length run → j < length run → dot a (point_at run j) -ℤ dot a (point_at run i) ≡ coordinate a (other_axis t) *ℤ side i j +ℤ coordinate a t *ℤ main i j
-  rise a i j li lj = by (dot a (point_at run j)) (dot a (point_at run i)) (coordinate a (other_axis t)) (coordinate a t) (coordinate (point_at run j) (other_axis t)) (coordinate (point_at run j) t)
-      (coordinate (point_at run i) (other_axis t)) (coordinate (point_at run i) t) (value_on t a (point_at run j) l (flat j lj)) (value_on t a (point_at run i) l (flat i li))
+  rise : (a : List ℤ) (i j : ℕ) → i < length run → j < length run
+      → dot a (point_at run j) -ℤ dot a (point_at run i) ≡ coordinate a (other_axis t) *ℤ side i j +ℤ coordinate a t *ℤ main i j
+  rise a i j li lj = by (dot a (point_at run j)) (dot a (point_at run i)) (coordinate a (other_axis t)) (coordinate a t)
+      (coordinate (point_at run j) (other_axis t)) (coordinate (point_at run j) t)
+      (coordinate (point_at run i) (other_axis t)) (coordinate (point_at run i) t) (value_on t a (point_at run j) l (flat j lj))
+      (value_on t a (point_at run i) l (flat i li))
     where
       by : (v w c b x y z u : ℤ) → v ≡ c *ℤ x +ℤ b *ℤ y → w ≡ c *ℤ z +ℤ b *ℤ u → v -ℤ w ≡ c *ℤ (x -ℤ z) +ℤ b *ℤ (y -ℤ u)
       by v w c b x y z u e f = omega (arith, ints, rings, e, f)
 
   -- the values of a line that holds the run, from a place to a place
-  pub goes : (n : Naive) (i j : ℕ) → i < length run → j < length run → IsNaiveFor t run n → (coordinate n.a (other_axis t) *ℤ side i j +ℤ coordinate n.a t *ℤ main i j) <ℤ coordinate n.a t
+  pub goes : (n : Naive) (i j : ℕ) → i < length run → j < length run → IsNaiveFor t run n
+      → (coordinate n.a (other_axis t) *ℤ side i j +ℤ coordinate n.a t *ℤ main i j) <ℤ coordinate n.a t
   goes n i j li lj h =
       let p = h.holds i [] li in
       let q = h.holds j [] lj in
-      within (dot n.a (point_at run j)) (dot n.a (point_at run i)) n.mu (coordinate n.a t) (coordinate n.a (other_axis t) *ℤ side i j +ℤ coordinate n.a t *ℤ main i j) (rise n.a i j li lj) p.low q.high
+      within (dot n.a (point_at run j)) (dot n.a (point_at run i)) n.mu (coordinate n.a t)
+      (coordinate n.a (other_axis t) *ℤ side i j +ℤ coordinate n.a t *ℤ main i j) (rise n.a i j li lj) p.low q.high
     where
       within : (v w mu b d : ℤ) → v -ℤ w ≡ d → mu ≤ℤ w → v <ℤ (mu +ℤ b) → d <ℤ b
       within v w mu b d e f g = omega (arith, ints, e, f, g)
 
   -- and back
-  comes : (n : Naive) (i j : ℕ) → i < length run → j < length run → IsNaiveFor t run n → neg_ℤ (coordinate n.a t) <ℤ (coordinate n.a (other_axis t) *ℤ side i j +ℤ coordinate n.a t *ℤ main i j)
-  comes n i j li lj h = back (coordinate n.a (other_axis t)) (coordinate n.a t) (coordinate (point_at run i) (other_axis t)) (coordinate (point_at run j) (other_axis t)) (coordinate (point_at run i) t) (coordinate (point_at run j) t) (goes n j i lj li h)
+  comes : (n : Naive) (i j : ℕ) → i < length run → j < length run → IsNaiveFor t run n
+      → neg_ℤ (coordinate n.a t) <ℤ (coordinate n.a (other_axis t) *ℤ side i j +ℤ coordinate n.a t *ℤ main i j)
+  comes n i j li lj h = back (coordinate n.a (other_axis t)) (coordinate n.a t) (coordinate (point_at run i) (other_axis t))
+      (coordinate (point_at run j) (other_axis t)) (coordinate (point_at run i) t) (coordinate (point_at run j) t) (goes n j i lj li h)
     where
       back : (c b x y z w : ℤ) → (c *ℤ (x -ℤ y) +ℤ b *ℤ (z -ℤ w)) <ℤ b → neg_ℤ b <ℤ (c *ℤ (y -ℤ x) +ℤ b *ℤ (w -ℤ z))
       back c b x y z w h = omega (arith, ints, rings, h)
@@ -96,7 +104,8 @@ module _ (t : ℕ) (run : List Point) (l : t < 2) (flat : (i : ℕ) → i < leng
       size c b h = (omega (arith, ints, h), omega (arith, ints, h))
 
   -- a row by its two coefficients, whose values lie close, is that of a line that holds the run
-  row_line : (c b : ℤ) → pos 1 ≤ℤ b → neg_ℤ b ≤ℤ c → c ≤ℤ b → ((i j : ℕ) → i < length run → j < length run → (c *ℤ side i j +ℤ b *ℤ main i j) <ℤ b) → (m : Naive) × IsNaiveFor t run m × (coordinate m.a t ≡ b)
+  row_line : (c b : ℤ) → pos 1 ≤ℤ b → neg_ℤ b ≤ℤ c → c ≤ℤ b → ((i j : ℕ) → i < length run → j < length run → (c *ℤ side i j +ℤ b *ℤ main i j) <ℤ b)
+      → (m : Naive) × IsNaiveFor t run m × (coordinate m.a t ≡ b)
   row_line c b some low high close =
       let a = row t c b in
       let p = row_main t c b l in
@@ -111,7 +120,8 @@ module _ (t : ℕ) (run : List Point) (l : t < 2) (flat : (i : ℕ) → i < leng
   -- ---- two lines with one main coefficient
 
   -- where the slopes of two lines with one main coefficient past 1 differ, a line with a lesser one holds the run
-  lesser : (n m : Naive) → IsNaiveFor t run n → IsNaiveFor t run m → coordinate n.a t ≡ coordinate m.a t → coordinate n.a (other_axis t) <ℤ coordinate m.a (other_axis t) → pos 1 <ℤ coordinate n.a t
+  lesser : (n m : Naive) → IsNaiveFor t run n → IsNaiveFor t run m → coordinate n.a t ≡ coordinate m.a t
+      → coordinate n.a (other_axis t) <ℤ coordinate m.a (other_axis t) → pos 1 <ℤ coordinate n.a t
       → (k : Naive) × IsNaiveFor t run k × (coordinate k.a t <ℤ coordinate n.a t)
   lesser n m h k same less past =
       let c = coordinate n.a (other_axis t) in
@@ -120,12 +130,15 @@ module _ (t : ℕ) (run : List Point) (l : t < 2) (flat : (i : ℕ) → i < leng
       let g = b -ℤ pos 1 in
       let sn = side_size n h.proper in
       let sm = side_size m k.proper in
-      let between = some_between c e g less (let s = sn.0 in omega (arith, ints, s)) (let s = sm.1 in omega (arith, ints, s, same)) (omega (arith, ints, past)) in
+      let between = some_between c e g less (let s = sn.0 in omega (arith, ints, s)) (let s = sm.1 in omega (arith, ints, s, same)) (omega (arith, ints, past))
+      in
       let is = between.1 in
       let low = is.low in
       let high = is.high in
-      let r = row_line between.0 g (omega (arith, ints, past)) low high (λ i j li lj. asks_between c e g between.0 (side i j) (main i j) (omega (arith, ints, past)) is
-      (again c b (side i j) (main i j) (goes n i j li lj h)) (again e b (side i j) (main i j) (subst (λ (z : ℤ). (e *ℤ side i j +ℤ z *ℤ main i j) <ℤ z) (sym same) (goes m i j li lj k)))) in
+      let r = row_line between.0 g (omega (arith, ints, past)) low high
+      (λ i j li lj. asks_between c e g between.0 (side i j) (main i j) (omega (arith, ints, past)) is
+      (again c b (side i j) (main i j) (goes n i j li lj h))
+      (again e b (side i j) (main i j) (subst (λ (z : ℤ). (e *ℤ side i j +ℤ z *ℤ main i j) <ℤ z) (sym same) (goes m i j li lj k)))) in
       (r.0, r.1, before (coordinate (r.0).a t) b r.2)
     where
       before : (z b : ℤ) → z ≡ b -ℤ pos 1 → z <ℤ b
@@ -134,7 +147,8 @@ module _ (t : ℕ) (run : List Point) (l : t < 2) (flat : (i : ℕ) → i < leng
       again : (c b s d : ℤ) → (c *ℤ s +ℤ b *ℤ d) <ℤ b → (c *ℤ s +ℤ (b -ℤ pos 1 +ℤ pos 1) *ℤ d) <ℤ (b -ℤ pos 1 +ℤ pos 1)
       again c b s d h = omega (arith, ints, rings, h)
 
-  not_steeper : (n m : Naive) → IsLeastLine t run n → IsLeastLine t run m → coordinate n.a t ≡ coordinate m.a t → pos 1 <ℤ coordinate n.a t → coordinate n.a (other_axis t) <ℤ coordinate m.a (other_axis t) → ⊥
+  not_steeper : (n m : Naive) → IsLeastLine t run n → IsLeastLine t run m → coordinate n.a t ≡ coordinate m.a t → pos 1 <ℤ coordinate n.a t
+      → coordinate n.a (other_axis t) <ℤ coordinate m.a (other_axis t) → ⊥
   not_steeper n m h k same past less =
       let r = lesser n m h.line k.line same less past in
       let a = h.least r.0 r.1 in
@@ -144,20 +158,26 @@ module _ (t : ℕ) (run : List Point) (l : t < 2) (flat : (i : ℕ) → i < leng
   -- ---- along steps of 1 or -1
   module _ (steps : (i : ℕ) → i + 1 < length run → (change_at run t i ≡ pos 1) ⊎ (change_at run t i ≡ negsuc 0)) where
     -- a line with the main coefficient 1 is told by the first step
-    pub slope_told : (n : Naive) → IsNaiveFor t run n → 1 < length run → coordinate n.a t ≡ pos 1 → (side 0 1 ≡ pos 1 → coordinate n.a (other_axis t) ≡ neg_ℤ (main 0 1)) × (side 0 1 ≡ negsuc 0 → coordinate n.a (other_axis t) ≡ main 0 1)
+    pub slope_told : (n : Naive) → IsNaiveFor t run n → 1 < length run → coordinate n.a t ≡ pos 1
+        → (side 0 1 ≡ pos 1 → coordinate n.a (other_axis t) ≡ neg_ℤ (main 0 1)) × (side 0 1 ≡ negsuc 0 → coordinate n.a (other_axis t) ≡ main 0 1)
     slope_told n h two e =
         let above = subst (λ (z : ℤ). (coordinate n.a (other_axis t) *ℤ side 0 1 +ℤ z *ℤ main 0 1) <ℤ z) e (goes n 0 1 (omega arith) two h) in
-        let below = subst (λ (z : ℤ). neg_ℤ z <ℤ (coordinate n.a (other_axis t) *ℤ side 0 1 +ℤ z *ℤ main 0 1)) e (comes n 0 1 (omega arith) two h) in
-        (λ s. slope_up (coordinate n.a (other_axis t)) (side 0 1) (main 0 1) s above below, λ s. slope_down (coordinate n.a (other_axis t)) (side 0 1) (main 0 1) s above below)
+        let below = subst (λ (z : ℤ). neg_ℤ z <ℤ (coordinate n.a (other_axis t) *ℤ side 0 1 +ℤ z *ℤ main 0 1)) e (comes n 0 1 (omega arith) two h) in (
+          λ s. slope_up (coordinate n.a (other_axis t)) (side 0 1) (main 0 1) s above below,
+          λ s. slope_down (coordinate n.a (other_axis t)) (side 0 1)
+              (main 0 1) s above below,
+        )
 
-    told : (n m : Naive) → IsNaiveFor t run n → IsNaiveFor t run m → 1 < length run → coordinate n.a t ≡ pos 1 → coordinate m.a t ≡ pos 1 → coordinate n.a (other_axis t) ≡ coordinate m.a (other_axis t)
+    told : (n m : Naive) → IsNaiveFor t run n → IsNaiveFor t run m → 1 < length run → coordinate n.a t ≡ pos 1 → coordinate m.a t ≡ pos 1
+        → coordinate n.a (other_axis t) ≡ coordinate m.a (other_axis t)
     told n m h k two en em =
         let a = slope_told n h two en in
         let b = slope_told m k two em in
         elim (steps 0 two) [ inl s ↦ a.0 s ∙ sym (b.0 s) | inr s ↦ a.1 s ∙ sym (b.1 s) ]
 
     -- two least lines of the axis have the same coefficients
-    pub least_once : (n m : Naive) → IsLeastLine t run n → IsLeastLine t run m → 1 < length run → (coordinate n.a t ≡ coordinate m.a t) × (coordinate n.a (other_axis t) ≡ coordinate m.a (other_axis t))
+    pub least_once : (n m : Naive) → IsLeastLine t run n → IsLeastLine t run m → 1 < length run
+        → (coordinate n.a t ≡ coordinate m.a t) × (coordinate n.a (other_axis t) ≡ coordinate m.a (other_axis t))
     least_once n m h k two =
         let a = h.least m k.line in
         let b = k.least n h.line in
@@ -168,7 +188,8 @@ module _ (t : ℕ) (run : List Point) (l : t < 2) (flat : (i : ℕ) → i < leng
               (λ (past : pos 1 <ℤ coordinate n.a t). by_lt_z (coordinate n.a (other_axis t)) (coordinate m.a (other_axis t))
               (λ (less : coordinate n.a (other_axis t) <ℤ coordinate m.a (other_axis t)). absurd (not_steeper n m h k same past less))
               (λ (x : coordinate m.a (other_axis t) ≤ℤ coordinate n.a (other_axis t)). by_lt_z (coordinate m.a (other_axis t)) (coordinate n.a (other_axis t))
-              (λ (more : coordinate m.a (other_axis t) <ℤ coordinate n.a (other_axis t)). absurd (not_steeper m n k h (sym same) (omega (arith, ints, past, same)) more))
+              (λ (more : coordinate m.a (other_axis t) <ℤ coordinate n.a (other_axis t)).
+              absurd (not_steeper m n k h (sym same) (omega (arith, ints, past, same)) more))
               (λ (y : coordinate n.a (other_axis t) ≤ℤ coordinate m.a (other_axis t)). omega (arith, ints, x, y))))
               (λ (most : coordinate n.a t ≤ℤ pos 1). told n m h.line k.line two (omega (arith, ints, some, most)) (omega (arith, ints, some, most, same))),
         )
@@ -176,23 +197,31 @@ module _ (t : ℕ) (run : List Point) (l : t < 2) (flat : (i : ℕ) → i < leng
     -- ---- lines of both axes
 
     module _ (n m : Naive) (h : IsNaiveFor t run n) (k : IsNaiveFor (other_axis t) run m) where
-      back_again : (a : List ℤ) (i j : ℕ) → i < length run → j < length run → dot a (point_at run j) -ℤ dot a (point_at run i) ≡ coordinate a t *ℤ main i j +ℤ coordinate a (other_axis t) *ℤ side i j
+      back_again : (a : List ℤ) (i j : ℕ) → i < length run → j < length run
+          → dot a (point_at run j) -ℤ dot a (point_at run i) ≡ coordinate a t *ℤ main i j +ℤ coordinate a (other_axis t) *ℤ side i j
       back_again a i j li lj = let e = rise a i j li lj in omega (arith, ints, e)
 
       -- what the line of the other axis asks of a step
-      over : (i : ℕ) → i + 1 < length run → (coordinate m.a t *ℤ main i (i + 1) +ℤ coordinate m.a (other_axis t) *ℤ side i (i + 1)) <ℤ coordinate m.a (other_axis t)
-      over i d = within (dot m.a (point_at run (i + 1))) (dot m.a (point_at run i)) m.mu (coordinate m.a (other_axis t)) (coordinate m.a t *ℤ main i (i + 1) +ℤ coordinate m.a (other_axis t) *ℤ side i (i + 1)) (back_again m.a i (i + 1) (omega arith) d) (k.holds i [] (omega arith)).low (k.holds (i + 1) [] d).high
+      over : (i : ℕ) → i + 1 < length run → (coordinate m.a t *ℤ main i (i + 1) +ℤ coordinate m.a (other_axis t) *ℤ side i (i + 1)) <ℤ coordinate m.a
+          (other_axis t)
+      over i d = within (dot m.a (point_at run (i + 1))) (dot m.a (point_at run i)) m.mu (coordinate m.a (other_axis t))
+          (coordinate m.a t *ℤ main i (i + 1) +ℤ coordinate m.a (other_axis t) *ℤ side i (i + 1)) (back_again m.a i (i + 1) (omega arith) d)
+          (k.holds i [] (omega arith)).low (k.holds (i + 1) [] d).high
         where
           within : (v w mu b d : ℤ) → v -ℤ w ≡ d → mu ≤ℤ w → v <ℤ (mu +ℤ b) → d <ℤ b
           within v w mu b d e f g = omega (arith, ints, e, f, g)
 
-      under : (i : ℕ) → i + 1 < length run → neg_ℤ (coordinate m.a (other_axis t)) <ℤ (coordinate m.a t *ℤ main i (i + 1) +ℤ coordinate m.a (other_axis t) *ℤ side i (i + 1))
-      under i d = within (dot m.a (point_at run (i + 1))) (dot m.a (point_at run i)) m.mu (coordinate m.a (other_axis t)) (coordinate m.a t *ℤ main i (i + 1) +ℤ coordinate m.a (other_axis t) *ℤ side i (i + 1)) (back_again m.a i (i + 1) (omega arith) d) (k.holds (i + 1) [] d).low (k.holds i [] (omega arith)).high
+      under : (i : ℕ) → i + 1 < length run
+          → neg_ℤ (coordinate m.a (other_axis t)) <ℤ (coordinate m.a t *ℤ main i (i + 1) +ℤ coordinate m.a (other_axis t) *ℤ side i (i + 1))
+      under i d = within (dot m.a (point_at run (i + 1))) (dot m.a (point_at run i)) m.mu (coordinate m.a (other_axis t))
+          (coordinate m.a t *ℤ main i (i + 1) +ℤ coordinate m.a (other_axis t) *ℤ side i (i + 1)) (back_again m.a i (i + 1) (omega arith) d)
+          (k.holds (i + 1) [] d).low (k.holds i [] (omega arith)).high
         where
           within : (v w mu b d : ℤ) → v -ℤ w ≡ d → mu ≤ℤ v → w <ℤ (mu +ℤ b) → neg_ℤ b <ℤ d
           within v w mu b d e f g = omega (arith, ints, e, f, g)
 
-      step_goes : (i : ℕ) → i + 1 < length run → Goes (coordinate n.a (other_axis t)) (coordinate n.a t) (coordinate m.a t) (coordinate m.a (other_axis t)) (side i (i + 1)) (main i (i + 1))
+      step_goes : (i : ℕ) → i + 1 < length run → Goes (coordinate n.a (other_axis t)) (coordinate n.a t) (coordinate m.a t) (coordinate m.a (other_axis t))
+          (side i (i + 1)) (main i (i + 1))
       step_goes i d =
           let s = side_size n h.proper in
           record {
@@ -214,8 +243,20 @@ module _ (t : ℕ) (run : List Point) (l : t < 2) (flat : (i : ℕ) → i < leng
 
       is_diagonal : IsDiagonal
       is_diagonal = by_lt_z (pos 0) (coordinate m.a t)
-          (λ (p : pos 0 <ℤ coordinate m.a t). record { slope = pos 1; low = omega (arith, ints); high = omega (arith, ints); each = λ i d. (diagonal _ _ _ _ _ _ (steps i d) (step_goes i d)).0 p })
-          (λ (p : coordinate m.a t ≤ℤ pos 0). record { slope = negsuc 0; low = omega (arith, ints); high = omega (arith, ints); each = λ i d. (diagonal _ _ _ _ _ _ (steps i d) (step_goes i d)).1 p })
+          (λ (p : pos 0 <ℤ coordinate m.a t). record {
+            slope = pos 1;
+            low = omega (arith, ints);
+            high = omega (arith, ints);
+            each =
+                λ i d. (diagonal _ _ _ _ _ _ (steps i d) (step_goes i d)).0 p;
+          })
+          (λ (p : coordinate m.a t ≤ℤ pos 0). record {
+            slope = negsuc 0;
+            low = omega (arith, ints);
+            high = omega (arith, ints);
+            each =
+                λ i d. (diagonal _ _ _ _ _ _ (steps i d) (step_goes i d)).1 p;
+          })
 
       -- so the values of the diagonal row are all one
       level : (d : IsDiagonal) (i : ℕ) → i < length run → d.slope *ℤ side 0 i +ℤ pos 1 *ℤ main 0 i ≡ pos 0
@@ -226,15 +267,22 @@ module _ (t : ℕ) (run : List Point) (l : t < 2) (flat : (i : ℕ) → i < leng
       level d (suc i) b =
           let q : i + 1 ≡ suc i = omega arith in
           let e = subst (λ (j : ℕ). d.slope *ℤ side i j +ℤ pos 1 *ℤ main i j ≡ pos 0) q (d.each i (omega arith)) in
-          more d.slope (coordinate (point_at run 0) (other_axis t)) (coordinate (point_at run i) (other_axis t)) (coordinate (point_at run (suc i)) (other_axis t)) (coordinate (point_at run 0) t) (coordinate (point_at run i) t) (coordinate (point_at run (suc i)) t) (level d i (omega arith)) e
+          more d.slope (coordinate (point_at run 0) (other_axis t)) (coordinate (point_at run i) (other_axis t))
+          (coordinate (point_at run (suc i)) (other_axis t)) (coordinate (point_at run 0) t) (coordinate (point_at run i) t)
+          (coordinate (point_at run (suc i)) t) (level d i (omega arith)) e
         where
-          more : (c x y z u v w : ℤ) → c *ℤ (y -ℤ x) +ℤ pos 1 *ℤ (v -ℤ u) ≡ pos 0 → c *ℤ (z -ℤ y) +ℤ pos 1 *ℤ (w -ℤ v) ≡ pos 0 → c *ℤ (z -ℤ x) +ℤ pos 1 *ℤ (w -ℤ u) ≡ pos 0
+          more : (c x y z u v w : ℤ) → c *ℤ (y -ℤ x) +ℤ pos 1 *ℤ (v -ℤ u) ≡ pos 0 → c *ℤ (z -ℤ y) +ℤ pos 1 *ℤ (w -ℤ v) ≡ pos 0
+              → c *ℤ (z -ℤ x) +ℤ pos 1 *ℤ (w -ℤ u) ≡ pos 0
           more c x y z u v w e f = omega (arith, ints, rings, e, f)
 
       diagonal_line : (d : IsDiagonal) → (o : Naive) × IsNaiveFor t run o × (coordinate o.a t ≡ pos 1)
-      diagonal_line d = row_line d.slope (pos 1) (omega (arith, ints)) d.low d.high (λ i j li lj. apart d.slope (coordinate (point_at run 0) (other_axis t)) (coordinate (point_at run i) (other_axis t)) (coordinate (point_at run j) (other_axis t)) (coordinate (point_at run 0) t) (coordinate (point_at run i) t) (coordinate (point_at run j) t) (level d i li) (level d j lj))
+      diagonal_line d = row_line d.slope (pos 1) (omega (arith, ints)) d.low d.high
+          (λ i j li lj. apart d.slope (coordinate (point_at run 0) (other_axis t)) (coordinate (point_at run i) (other_axis t))
+          (coordinate (point_at run j) (other_axis t)) (coordinate (point_at run 0) t) (coordinate (point_at run i) t) (coordinate (point_at run j) t)
+          (level d i li) (level d j lj))
         where
-          apart : (c x y z u v w : ℤ) → c *ℤ (y -ℤ x) +ℤ pos 1 *ℤ (v -ℤ u) ≡ pos 0 → c *ℤ (z -ℤ x) +ℤ pos 1 *ℤ (w -ℤ u) ≡ pos 0 → (c *ℤ (z -ℤ y) +ℤ pos 1 *ℤ (w -ℤ v)) <ℤ pos 1
+          apart : (c x y z u v w : ℤ) → c *ℤ (y -ℤ x) +ℤ pos 1 *ℤ (v -ℤ u) ≡ pos 0 → c *ℤ (z -ℤ x) +ℤ pos 1 *ℤ (w -ℤ u) ≡ pos 0
+              → (c *ℤ (z -ℤ y) +ℤ pos 1 *ℤ (w -ℤ v)) <ℤ pos 1
           apart c x y z u v w e f = omega (arith, ints, rings, e, f)
 
       -- a least line has the main coefficient 1

@@ -28,7 +28,8 @@ number_form d = one_form (IsNumber d) (is_number d) (λ n. digit n ∷ []) (λ w
 
 pub sign_form : IsForm sign
 unfolding IsWord
-sign_form = one_form (λ s. Unit {0}) (λ s. true) sense_word sense_value 1 (record { passes = λ s a. refl; ranges = λ s e. tt; guesses = λ s a. guesses s; word = λ s a. word s; few = λ s a. few s })
+sign_form = one_form (λ s. Unit {0}) (λ s. true) sense_word sense_value 1
+    (record { passes = λ s a. refl; ranges = λ s e. tt; guesses = λ s a. guesses s; word = λ s a. word s; few = λ s a. few s })
   where
     guesses : (s : Sense) → sense_value (sense_word s) ≡ s
     guesses Sense.Down = refl

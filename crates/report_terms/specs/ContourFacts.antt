@@ -1,4 +1,5 @@
--- What a report says of a contour, and when it shows it: the outline, the segments of the tangential cover, the evidence that their lines are least, and how each gap is refused.
+-- What a report says of a contour, and when it shows it: the outline, the segments of the tangential cover, the evidence that their lines are least, and how
+-- each gap is refused.
 -- Geometry alone: no line, spelling or judge stands here.
 use Rattle.std.specs.Prelude.{◌≡◌, ℕ, ◌<◌, List, [], ◌∷◌, length, map, slice_get, Some, ◌≤ℤ◌, All}
 use Rattle.std.specs.List.{AllZip}
@@ -32,7 +33,8 @@ pub record GapFact : Type 0 where
   pub axis : ℕ
   pub kind : GapKind
 
--- a contour with its segments in order, the pairs of places that show the lines of these to be least, where the report gives them, and for each segment how the gap after it is refused for the one and for the other axis
+-- a contour with its segments in order, the pairs of places that show the lines of these to be least, where the report gives them, and for each segment how the
+-- gap after it is refused for the one and for the other axis
 pub record ContourFact : Type 0 where
   pub outline : Contour
   pub segments : List Segment
@@ -58,7 +60,8 @@ SegmentIsLeast points s = IsLeastLine s.axis (arc points s.stretch.first s.stret
 
 -- no proper line of the axis x or y that holds each place of the stretch has a lesser main coefficient
 abbrev pub SegmentIsLeastOfBoth : List Point → Segment → Type 0
-SegmentIsLeastOfBoth points s = (u : ℕ) (n : Naive) → u < 2 → IsNaiveFor u (arc points s.stretch.first s.stretch.last) n → coordinate s.line.a s.axis ≤ℤ coordinate n.a u
+SegmentIsLeastOfBoth points s = (u : ℕ) (n : Naive) → u < 2 → IsNaiveFor u (arc points s.stretch.first s.stretch.last) n
+    → coordinate s.line.a s.axis ≤ℤ coordinate n.a u
 
 -- the pairs of places show that no proper line of the axis that holds each place of the stretch has a lesser main coefficient
 abbrev pub SegmentHasEvidence : List Point → Segment → Pairs → Type 0
@@ -76,7 +79,8 @@ pub record GapShows (run : List Point) (facts : GapFact × GapFact) : Type 0 whe
   pub refused_x : RefusalShows run facts.0
   pub refused_y : RefusalShows run facts.1
 
--- the segments are exactly the cover of the contour, each with its line, which in a report with the number 2 is least and has evidence of it; and each has a gap, whose run is not straight
+-- the segments are exactly the cover of the contour, each with its line, which in a report with the number 2 is least and has evidence of it; and each has a
+-- gap, whose run is not straight
 pub record ContourShows (number : ℕ) (fact : ContourFact) : Type 0 where
   pub cover : IsCover fact.outline.points (stretches_of fact.segments)
   pub lines : All (SegmentShows fact.outline.points) fact.segments

@@ -1,6 +1,7 @@
 -- The lines of contours in a report: how they stand in groups, and when one is good after those before it.
 -- Only the lines of this section stand here; how sections follow each other stands in `Sections`.
-use Rattle.std.specs.Prelude.{◌≡◌, ℕ, ◌-◌, ◌*◌, ◌/◌, ◌%◌, ◌<◌, ◌≤◌, Bool, true, false, not, if◌then◌else◌, List, [], ◌∷◌, length, filter_map, take_while, slice_get, slice_index_or, Option, Some, None}
+use Rattle.std.specs.Prelude.{◌≡◌, ℕ, ◌-◌, ◌*◌, ◌/◌, ◌%◌, ◌<◌, ◌≤◌, Bool, true, false, not, if◌then◌else◌, List, [], ◌∷◌, length, filter_map, take_while}
+use Rattle.std.specs.Prelude.{slice_get, slice_index_or, Option, Some, None}
 use Rattle.shape_terms.specs.Points.{Point, coordinate}
 use Rattle.shape_terms.specs.Pictures.{Picture}
 use Rattle.shape_terms.specs.Naive.{Naive}
@@ -65,8 +66,10 @@ last_segment (l ∷ m ∷ lines) = last_segment (m ∷ lines)
 
 -- ---- where the lines stand
 
--- how many contours were begun; and of the last of them, how many points it was given, how many segments its `contour` line gives, the stretches of those it was given, the segment of the last line where that is a `seg` line, and how many gap lines it has
--- A judge keeps as much, but what lines claim is not its notion: `holds_shows` says of every text that holds, in geometry alone (`ContourFacts`), that its facts are those of all contours of the picture, each with all its maximal segments and with a refusal of each gap.
+-- how many contours were begun; and of the last of them, how many points it was given, how many segments its `contour` line gives, the stretches of those it
+-- was given, the segment of the last line where that is a `seg` line, and how many gap lines it has
+-- A judge keeps as much, but what lines claim is not its notion: `holds_shows` says of every text that holds, in geometry alone (`ContourFacts`), that its
+-- facts are those of all contours of the picture, each with all its maximal segments and with a refusal of each gap.
 pub record Standing : Type 0 where
   pub begun : ℕ
   pub points : ℕ
@@ -127,7 +130,8 @@ pub record IsNextPoint (contours : List Contour) (s : Standing) (p : Point) : Ty
 abbrev pub WantsNone : (number : ℕ) → Standing → Type 0
 WantsNone number s = number ≡ 2 → s.last ≡ None
 
--- the claim of a `seg` line: all points are given, a segment is wanted, no `least` line is and no gap line came yet, and the segment is good after those before it
+-- the claim of a `seg` line: all points are given, a segment is wanted, no `least` line is and no gap line came yet, and the segment is good after those before
+-- it
 pub record IsNextSegment (number : ℕ) (contours : List Contour) (s : Standing) (b e t : ℕ) (line : Naive) : Type 0 where
   pub points : s.points ≡ length (open_contour contours s).points
   pub more : length s.stretches < s.declared
@@ -135,14 +139,17 @@ pub record IsNextSegment (number : ℕ) (contours : List Contour) (s : Standing)
   pub early : s.gaps ≡ 0
   pub segment : IsSegment (open_contour contours s).points s.declared s.stretches b e t line
 
--- the claim of a `least` line: in a report with the number 2, the line right before is a `seg` line, and the pairs of places of its run show its line to be least
+-- the claim of a `least` line: in a report with the number 2, the line right before is a `seg` line, and the pairs of places of its run show its line to be
+-- least
 pub record IsNextLeast (number : ℕ) (contours : List Contour) (s : Standing) (pairs : Pairs) : Type 0 where
   pub second : number ≡ 2
   pub segment : Segment
   pub before : s.last ≡ Some segment
-  pub shows : ShowsLeast segment.axis (arc (open_contour contours s).points segment.stretch.first segment.stretch.last) (coordinate segment.line.a segment.axis) pairs
+  pub shows : ShowsLeast segment.axis (arc (open_contour contours s).points segment.stretch.first segment.stretch.last) (coordinate segment.line.a segment.axis)
+      pairs
 
--- the claim of a gap line: all points and segments are given, no `least` line is wanted, the gap line of this axis comes next, and its evidence is good for the run of its gap
+-- the claim of a gap line: all points and segments are given, no `least` line is wanted, the gap line of this axis comes next, and its evidence is good for the
+-- run of its gap
 pub record IsNextGap (number : ℕ) (contours : List Contour) (s : Standing) (t : ℕ) (evidence : Evidence) : Type 0 where
   pub points : s.points ≡ length (open_contour contours s).points
   pub segments : length s.stretches ≡ s.declared

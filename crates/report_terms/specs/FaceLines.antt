@@ -1,6 +1,7 @@
 -- The lines of faces in a report: how they stand in groups, and when one is good after those before it.
 -- Only the lines of this section stand here; how sections follow each other stands in `Sections`.
-use Rattle.std.specs.Prelude.{◌≡◌, ℕ, ◌+◌, ◌-◌, ◌<◌, ◌≤◌, Bool, true, false, List, [], ◌∷◌, ◌++◌, length, filter_map, slice_index_or, Option, Some, None, pos, Contains}
+use Rattle.std.specs.Prelude.{◌≡◌, ℕ, ◌+◌, ◌-◌, ◌<◌, ◌≤◌, Bool, true, false, List, [], ◌∷◌, ◌++◌, length, filter_map, slice_index_or, Option, Some, None, pos}
+use Rattle.std.specs.Prelude.{Contains}
 use Rattle.shape_terms.specs.Points.{Point}
 use Rattle.shape_terms.specs.Steps.{Before}
 use Rattle.shape_terms.specs.Adjacency.{Near}
@@ -70,7 +71,8 @@ abbrev pub given_patch : List Line → GivenPatch
 given_patch lines = record { declared = count_of lines; plane = plane_of lines; points = filter_map on_point lines; refused = filter_map off_point lines }
 
 -- how many faces were begun; and of the last of them, the points that were given, and what is given of its last patch
--- A judge keeps as much, but what lines claim is not its notion: `holds_shows` says of every text that holds, in geometry alone (`FaceFacts`), that its facts are those of all six faces of the picture, each cut into patches of planes that refuse what touches them.
+-- A judge keeps as much, but what lines claim is not its notion: `holds_shows` says of every text that holds, in geometry alone (`FaceFacts`), that its facts
+-- are those of all six faces of the picture, each cut into patches of planes that refuse what touches them.
 pub record FaceStanding : Type 0 where
   pub begun : ℕ
   pub taken : List Point
@@ -145,7 +147,8 @@ pub record IsOnLine (X : Picture) (s : FaceStanding) (p : Point) : Type 0 where
   pub next : IsNextOn (open_exposed X s) s.taken s.patch.points p
   pub held : HoldsPoint (open_axis s) s.patch.plane p
 
--- the claim of an `off` line: once the patch has all its points, it gives the next point that touches the patch, and the weights refute the patch with that point put last
+-- the claim of an `off` line: once the patch has all its points, it gives the next point that touches the patch, and the weights refute the patch with that
+-- point put last
 pub record IsOffLine (X : Picture) (s : FaceStanding) (p : Point) (why : Refutation) : Type 0 where
   pub points : length s.patch.points ≡ s.patch.declared
   pub next : IsNextTouching (open_exposed X s) s.taken s.patch.points s.patch.refused p

@@ -21,7 +21,8 @@ pub data Kind : Type 0 where
 
 -- all kinds
 abbrev pub kinds : List Kind
-kinds = Kind.Shape ∷ Kind.Parts ∷ Kind.Near ∷ Kind.Contour ∷ Kind.At ∷ Kind.Seg ∷ Kind.Least ∷ Kind.Turn ∷ Kind.Cut ∷ Kind.Face ∷ Kind.Patch ∷ Kind.On ∷ Kind.Off ∷ Kind.Del ∷ Kind.Tip ∷ Kind.Kept ∷ Kind.End ∷ []
+kinds = Kind.Shape ∷ Kind.Parts ∷ Kind.Near ∷ Kind.Contour ∷ Kind.At ∷ Kind.Seg ∷ Kind.Least ∷ Kind.Turn ∷ Kind.Cut ∷ Kind.Face ∷ Kind.Patch ∷ Kind.On
+    ∷ Kind.Off ∷ Kind.Del ∷ Kind.Tip ∷ Kind.Kept ∷ Kind.End ∷ []
 
 -- the word that a line of this kind begins with
 abbrev pub first_word : Kind → List ℕ

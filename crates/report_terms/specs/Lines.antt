@@ -16,7 +16,8 @@ pub record Heading : Type 0 where
   pub sides : Point
   pub rule : List ℕ
 
--- a line of a report. The sides stand as a point; a picture of two sides is a `pbm`, one of three a `raw`. The line of a gap is a `turn` or a `cut`, as its evidence is
+-- a line of a report. The sides stand as a point; a picture of two sides is a `pbm`, one of three a `raw`. The line of a gap is a `turn` or a `cut`, as its
+-- evidence is
 pub data Line : Type 0 where
   Shape : (heading : Heading) → Line
   Parts : (points object background : ℕ) → Line

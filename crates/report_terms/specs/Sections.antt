@@ -1,5 +1,6 @@
 -- The sections of a report, in their order, and when a line is good after the lines before it.
--- Each claim speaks of the heading and of the lines of its own section alone; what contours, faces and the thinning claim stands in `ContourLines`, `FaceLines` and `ThinningLines`.
+-- Each claim speaks of the heading and of the lines of its own section alone; what contours, faces and the thinning claim stands in `ContourLines`, `FaceLines`
+-- and `ThinningLines`.
 use Rattle.std.specs.Prelude.{◌≡◌, ◌≢◌, ℕ, ◌<◌, ◌≤◌, ◌==◌, List, [], ◌∷◌, length, map, filter, slice_get, Some, pos, All}
 use Rattle.shape_terms.specs.Pictures.{Picture, object_points, Least}
 use Rattle.shape_terms.specs.Parts.{Counts}

@@ -40,7 +40,13 @@ outline_of lines = record { start = start_of lines; points = filter_map point_of
 
 -- and of its cover: its segments in order, the evidence that their lines are least, and how the gap after each is refused
 abbrev pub contour_fact : List Line → ContourFact
-contour_fact lines = record { outline = outline_of lines; segments = filter_map segment_of lines; evidence = filter_map pairs_of lines; gaps = in_pairs (filter_map gap_of lines) }
+contour_fact lines = record {
+  outline = outline_of lines;
+  segments = filter_map segment_of lines;
+  evidence = filter_map pairs_of lines;
+  gaps =
+      in_pairs (filter_map gap_of lines);
+}
 
 -- what the lines of a patch say of it: its points with its plane, and the points that it refused
 abbrev pub patch_fact : List Line → PatchFact
@@ -96,7 +102,9 @@ pub record ThinningShows (X : Picture) (rule : Rule) (events : List Event) (kept
 abbrev pub TellSameParts : PartsFact → PartsFact → Type 0
 TellSameParts a b = (a.object ≡ b.object) × (a.background ≡ b.background)
 
--- the counts of the picture; each object point once, in raster order, with a nearest background point of the whole space; the contours of a flat picture, each from its least crack and with its points and its cover, of lines that are least where the number is 2; the six faces of a volume, each with its partition into patches; and the thinning by the rule, of which as many components are left as the picture has
+-- the counts of the picture; each object point once, in raster order, with a nearest background point of the whole space; the contours of a flat picture, each
+-- from its least crack and with its points and its cover, of lines that are least where the number is 2; the six faces of a volume, each with its partition
+-- into patches; and the thinning by the rule, of which as many components are left as the picture has
 pub record Shows (X : Picture) (rule : Rule) (content : Content) : Type 0 where
   pub parts : ShowsParts X content.parts
   pub nears : IsField X content.nears
@@ -113,7 +121,8 @@ pub record BeginsWithHeading (X : Picture) (lines : List Line) (number : ℕ) : 
   pub sides : heading.sides ≡ map pos X.sides
   pub number_is : heading.number ≡ number
 
--- the text is made of lines, of which the first is the heading with the picture's sides and the number, that show of the picture what they say, and of its thinning by the rule that they name
+-- the text is made of lines, of which the first is the heading with the picture's sides and the number, that show of the picture what they say, and of its
+-- thinning by the rule that they name
 pub record TextShows (X : Subject) (text : List ℕ) : Type 0 where
   pub lines : List Line
   pub fields : All (IsLineOf (length X.picture.sides)) lines

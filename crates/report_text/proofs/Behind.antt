@@ -12,11 +12,14 @@ abbrev pub number_words : List ℤ → List (List ℕ)
 number_words zs = flat_map (λ z. signed_decimal z ∷ []) zs
 
 -- with one more, the first k + 1 numbers stand behind blanks
-pub one_behind : (old before after : List ℕ) (zs : List ℤ) (k : ℕ) → k < length zs → before ≡ old ++ behind_blanks (number_words (take k zs)) → after ≡ before ++ 32 ∷ signed_decimal (get_or zs k (pos 0)) → after ≡ old ++ behind_blanks (number_words (take (k + 1) zs))
+pub one_behind : (old before after : List ℕ) (zs : List ℤ) (k : ℕ) → k < length zs → before ≡ old ++ behind_blanks (number_words (take k zs))
+    → after ≡ before ++ 32 ∷ signed_decimal (get_or zs k (pos 0)) → after ≡ old ++ behind_blanks (number_words (take (k + 1) zs))
 one_behind old before after zs k h b a =
     let z = get_or zs k (pos 0) in
     let w = 32 ∷ signed_decimal z in
     let t = number_words (take k zs) in
     let grown : behind_blanks (number_words (take (k + 1) zs)) ≡ behind_blanks t ++ w =
-    rw (add-one, take-suc zs k (pos 0) h) (ap behind_blanks (flat_map-append (λ z. signed_decimal z ∷ []) (take k zs) (z ∷ [])) ∙ flat_map-append (λ v. 32 ∷ v) t (signed_decimal z ∷ []) ∙ ap (λ u. behind_blanks t ++ u) (append-nil w)) in
+    rw (add-one, take-suc zs k (pos 0) h)
+    (ap behind_blanks (flat_map-append (λ z. signed_decimal z ∷ []) (take k zs) (z ∷ [])) ∙ flat_map-append (λ v. 32 ∷ v) t (signed_decimal z ∷ [])
+    ∙ ap (λ u. behind_blanks t ++ u) (append-nil w)) in
     a ∙ ap (λ u. u ++ w) b ∙ append_assoc old (behind_blanks t) w ∙ ap (λ u. old ++ u) (sym grown)

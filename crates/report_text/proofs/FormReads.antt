@@ -6,12 +6,14 @@ use Rattle.text_terms.specs.Forms.{Form, IsForm, read_times}
 use Rattle.report_text.specs.Reading.{NoField, ReadsField, ReadsForm}
 
 -- words that begin with no value in range are read as none
-none_read : {V : Type 0} (f : Form V) → IsForm f → (words : List (List ℕ)) (o : Option (V × List (List ℕ))) → f.read words ≡ o → NoField f.InRange f.words words → o ≡ None
+none_read : {V : Type 0} (f : Form V) → IsForm f → (words : List (List ℕ)) (o : Option (V × List (List ℕ))) → f.read words ≡ o → NoField f.InRange f.words words
+    → o ≡ None
 none_read f h words None e n = refl
 none_read f h words (Some (v, rest)) e n = let p = h.only words v rest e in absurd (n v rest p.0 p.1)
 
 -- what a form reads is known from what its values and their words are
-pub as_form : {T V : Type 0} (seen : T → V) (f : Form V) → IsForm f → (old new : List (List ℕ)) (r : Option T) → ReadsField seen f.InRange f.words old new r → ReadsForm seen f old new r
+pub as_form : {T V : Type 0} (seen : T → V) (f : Form V) → IsForm f → (old new : List (List ℕ)) (r : Option T) → ReadsField seen f.InRange f.words old new r
+    → ReadsForm seen f old new r
 as_form seen f h old new None n = none_read f h old (f.read old) refl n
 as_form seen f h old new (Some x) b = ap f.read b.split ∙ h.again (seen x) new b.range
 
@@ -38,23 +40,28 @@ one_front vs v None = refl
 one_front vs v (Some q) = ap (λ l. Some (l, q.1)) (sym (append_assoc vs (v ∷ []) q.0))
 
 pub read_begun : {V : Type 0} (f : Form V) (n : ℕ) (words : List (List ℕ)) → HasRead f n 0 words words []
-read_begun f n words = let e : n ≡ n - 0 = omega arith in record { is = no_front (read_times n f.read words) ∙ ap (λ m. after_values [] (read_times m f.read words)) e }
+read_begun f n words = let e : n ≡ n - 0 = omega arith in
+    record { is = no_front (read_times n f.read words) ∙ ap (λ m. after_values [] (read_times m f.read words)) e }
 
-next_read : {V : Type 0} (f : Form V) (n k : ℕ) (words : List (List ℕ)) → k < n → read_times (n - k) f.read words ≡ option_and_then (λ p. after_value p.0 (read_times (n - (k + 1)) f.read p.1)) (f.read words)
+next_read : {V : Type 0} (f : Form V) (n k : ℕ) (words : List (List ℕ)) → k < n
+    → read_times (n - k) f.read words ≡ option_and_then (λ p. after_value p.0 (read_times (n - (k + 1)) f.read p.1)) (f.read words)
 next_read f n k words h = let e : n - k ≡ suc (n - (k + 1)) = omega (arith, h) in ap (λ m. read_times m f.read words) e
 
-pub read_more : {V : Type 0} (f : Form V) (n k : ℕ) (start words left : List (List ℕ)) (vs : List V) (v : V) → k < n → HasRead f n k start words vs → f.read words ≡ Some (v, left) → HasRead f n (k + 1) start left (vs ++ v ∷ [])
+pub read_more : {V : Type 0} (f : Form V) (n k : ℕ) (start words left : List (List ℕ)) (vs : List V) (v : V) → k < n → HasRead f n k start words vs
+    → f.read words ≡ Some (v, left) → HasRead f n (k + 1) start left (vs ++ v ∷ [])
 read_more f n k start words left vs v h r e = record {
   is = r.is
       ∙ ap (after_values vs) (next_read f n k words h ∙ ap (option_and_then (λ p. after_value p.0 (read_times (n - (k + 1)) f.read p.1))) e)
       ∙ one_front vs v (read_times (n - (k + 1)) f.read left);
 }
 
-pub read_stops : {V : Type 0} (f : Form V) (n k : ℕ) (start words : List (List ℕ)) (vs : List V) → k < n → HasRead f n k start words vs → f.read words ≡ None → read_times n f.read start ≡ None
+pub read_stops : {V : Type 0} (f : Form V) (n k : ℕ) (start words : List (List ℕ)) (vs : List V) → k < n → HasRead f n k start words vs → f.read words ≡ None
+    → read_times n f.read start ≡ None
 read_stops f n k start words vs h r e = r.is
     ∙ ap (after_values vs) (next_read f n k words h ∙ ap (option_and_then (λ p. after_value p.0 (read_times (n - (k + 1)) f.read p.1))) e)
 
-pub read_whole : {V : Type 0} (f : Form V) (n k : ℕ) (start words : List (List ℕ)) (vs : List V) → n ≤ k → HasRead f n k start words vs → read_times n f.read start ≡ Some (vs, words)
+pub read_whole : {V : Type 0} (f : Form V) (n k : ℕ) (start words : List (List ℕ)) (vs : List V) → n ≤ k → HasRead f n k start words vs
+    → read_times n f.read start ≡ Some (vs, words)
 read_whole f n k start words vs h r =
     let e : n - k ≡ 0 = omega (arith, h) in
     r.is ∙ ap (λ m. after_values vs (read_times m f.read words)) e ∙ ap (λ l. Some (l, words)) (append-nil vs)

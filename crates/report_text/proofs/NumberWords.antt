@@ -1,6 +1,7 @@
 -- The number at the front of a text as its first word.
 -- Laws of texts; numbers are those of `shape_desk`, and where a text is split, `SplitWords` says.
-use Rattle.std.proofs.Common.{◌≡◌, ◌≢◌, ℕ, ◌+◌, ◌-◌, ◌<◌, ℤ, FitsSigned, refl, sym, ap, ◌∙◌, arith, List, [], ◌∷◌, ◌++◌, length, get_or, take, drop, ◌⊎◌, inl, inr, false, append-nil, length-append}
+use Rattle.std.proofs.Common.{◌≡◌, ◌≢◌, ℕ, ◌+◌, ◌-◌, ◌<◌, ℤ, FitsSigned, refl, sym, ap, ◌∙◌, arith, List, [], ◌∷◌, ◌++◌, length, get_or, take, drop, ◌⊎◌, inl}
+use Rattle.std.proofs.Common.{inr, false, append-nil, length-append}
 use Rattle.std.specs.Prelude.{◌==◌}
 use Rattle.std.specs.Int.{w64}
 use Rattle.std.specs.Fmt.{signed_decimal}
@@ -31,11 +32,13 @@ front_of text z rest f e =
     ap number_front b.1 ∙ number_front-signed_decimal z b.0 f (no_digit b.0 b.2)
 
 -- where no number stands at the front, none is the first word
-pub none_first : (text : List ℕ) → ((z : ℤ) → FitsSigned w64 z → number_front text ≢ signed_decimal z) → NoField (FitsSigned w64) (λ z. signed_decimal z ∷ []) (split_words text)
+pub none_first : (text : List ℕ) → ((z : ℤ) → FitsSigned w64 z → number_front text ≢ signed_decimal z)
+    → NoField (FitsSigned w64) (λ z. signed_decimal z ∷ []) (split_words text)
 none_first text h z rest f e = h z f (front_of text z rest f e)
 
 -- where something else than a blank follows the number at the front, none is the first word
-pub longer_first : (text : List ℕ) (z : ℤ) (n : ℕ) → SpellsNumber text z n → n ≢ length text → get_or text n 0 ≢ 32 → NoField (FitsSigned w64) (λ z. signed_decimal z ∷ []) (split_words text)
+pub longer_first : (text : List ℕ) (z : ℤ) (n : ℕ) → SpellsNumber text z n → n ≢ length text → get_or text n 0 ≢ 32
+    → NoField (FitsSigned w64) (λ z. signed_decimal z ∷ []) (split_words text)
 longer_first text z n s l b y rest f e =
     let w = signed_decimal y in
     let t = begins text w rest e in
@@ -58,7 +61,8 @@ pub within : (text : List ℕ) (z : ℤ) (n : ℕ) → SpellsNumber text z n →
 within text z n s d = omega (arith, s.len, ap length s.front, ap length (take-append-drop n text), length-append (take n text) (drop n text), d)
 
 -- a number with a blank behind it is the first word, and the others are those behind the blank
-pub number_first : (text : List ℕ) (z : ℤ) (n : ℕ) → SpellsNumber text z n → n ≢ length text → get_or text n 0 ≡ 32 → split_words text ≡ signed_decimal z ∷ split_words (take (length text - (n + 1)) (drop (n + 1) text))
+pub number_first : (text : List ℕ) (z : ℤ) (n : ℕ) → SpellsNumber text z n → n ≢ length text → get_or text n 0 ≡ 32
+    → split_words text ≡ signed_decimal z ∷ split_words (take (length text - (n + 1)) (drop (n + 1) text))
 unfolding IsWord
 number_first text z n s d b =
     let l = within text z n s d in

@@ -41,7 +41,8 @@ module _ {L : Type 0} (R : Report L) (is : IsSpelled R.text) (F : List L → Typ
   holds_at_end left g e z = let t = text_at_end left g e z in (t.front, t.whole)
 
   -- and before it
-  pub bad_at_end : (left : Option (List ℕ)) (g : GoingOn R text left F n) → (EndsWith R.last g.lines → ⊥) → IfTold left (λ bytes. bytes ≡ []) → FirstBad R text n
+  pub bad_at_end : (left : Option (List ℕ)) (g : GoingOn R text left F n) → (EndsWith R.last g.lines → ⊥) → IfTold left (λ bytes. bytes ≡ [])
+      → FirstBad R text n
   bad_at_end None g more z = absurd (untold g)
   bad_at_end (Some bytes) g more z = Texts.bad_at_end R is text bytes F n g more z
 
@@ -51,20 +52,24 @@ module _ {L : Type 0} (R : Report L) (is : IsSpelled R.text) (F : List L → Typ
   bad_line (Some bytes) g bad = Texts.bad_line R is text bytes F n g bad.some bad.none
 
   -- the next line is not good
-  pub not_good : (left new : Option (List ℕ)) (l : L) (g : GoingOn R text left F n) → IfTold left (λ bytes. TakesClaim R.text bytes new l) → (R.GoodAfter g.lines l → ⊥) → FirstBad R text n
+  pub not_good : (left new : Option (List ℕ)) (l : L) (g : GoingOn R text left F n) → IfTold left (λ bytes. TakesClaim R.text bytes new l)
+      → (R.GoodAfter g.lines l → ⊥) → FirstBad R text n
   not_good None new l g taken bad = absurd (untold g)
   not_good (Some bytes) new l g taken bad = Texts.not_good R is text bytes F n g l taken.rest taken.starts bad
 
   -- the next line is good
-  pub one_more : (left new : Option (List ℕ)) (l : L) (G : List L → Type 0) (g : GoingOn R text left F n) → IfTold left (λ bytes. TakesClaim R.text bytes new l) → R.GoodAfter g.lines l → G (g.lines ++ l ∷ []) → GoingOn R text new G (n + 1)
+  pub one_more : (left new : Option (List ℕ)) (l : L) (G : List L → Type 0) (g : GoingOn R text left F n) → IfTold left (λ bytes. TakesClaim R.text bytes new l)
+      → R.GoodAfter g.lines l → G (g.lines ++ l ∷ []) → GoingOn R text new G (n + 1)
   one_more None new l G g taken good follows = absurd (untold g)
   one_more (Some bytes) new l G g taken good follows = Texts.one_more R is text bytes F n g l taken.rest new G taken.starts taken.left good follows
 
 -- what was taken of the bytes left, where that was little
-few_of : {L : Type 0} (R : Report L) (is : IsSpelled R.text) (F : List L → Type 0) (n : ℕ) (text : List ℕ) (left at_place : Option (List ℕ)) → GoingOn R text left F n → TakenAhead left at_place → TakesFew R text at_place
+few_of : {L : Type 0} (R : Report L) (is : IsSpelled R.text) (F : List L → Type 0) (n : ℕ) (text : List ℕ) (left at_place : Option (List ℕ))
+    → GoingOn R text left F n → TakenAhead left at_place → TakesFew R text at_place
 few_of R is F n text None at_place g t = absurd (untold g)
 few_of R is F n text (Some bytes) None g t = absurd (let e = t.is in cc)
 few_of R is F n text (Some bytes) (Some rest) g t = Texts.takes_few R is text bytes F n g t.front rest (Some rest) (let e = sym t.is in cc) t.few refl
 
-pub told_few : {L : Type 0} (R : Report L) (is : IsSpelled R.text) (F : List L → Type 0) (n : ℕ) (text left at_place : Option (List ℕ)) → HasCome R F text left n → TakenAhead left at_place → IfTold text (λ t. TakesFew R t at_place)
+pub told_few : {L : Type 0} (R : Report L) (is : IsSpelled R.text) (F : List L → Type 0) (n : ℕ) (text left at_place : Option (List ℕ))
+    → HasCome R F text left n → TakenAhead left at_place → IfTold text (λ t. TakesFew R t at_place)
 told_few R is F n text left at_place g t = if_told text (λ b h. few_of R is F n b left at_place h t) g

@@ -5,6 +5,7 @@
 mod answer;
 mod check;
 pub mod field;
+mod front;
 mod judge;
 mod kinds;
 pub mod law;
@@ -20,6 +21,7 @@ mod words;
 
 pub use answer::{CheckFault, Judgement};
 pub use check::{check_by, check_from};
+pub use front::{Field, short_count, short_flat_axis, short_point, short_signed};
 pub use judge::ReportJudge;
 pub use kinds::kind;
 pub use line::ReportLine;

@@ -7,7 +7,7 @@ ghost use Rattle.report_text.specs.Telling.{IsTelling, TellsMore};
 
 use crate::line::ReportLine;
 use crate::report::WriteFault;
-use crate::text::Text;
+use crate::text::{MOST, Text};
 use shape_desk::{Desk, put_all};
 use shape_space::NoMemory;
 use std::alloc::Global;
@@ -67,7 +67,8 @@ fn place_on<D: Desk>(page: &[u8], filled: usize, count: usize, desk: &mut D) -> 
     write_out(&page[..filled], desk)
 }
 
-// Puts a line with its LF on a page of which a front waits, and answers how much waits then.
+// Puts a line with its LF on a page of which a front waits, and answers how much waits then. A page that has no room for the
+// longest line is written before.
 #[inline(always)]
 fn put_line<D: Desk>(line: &Text, page: &mut [u8], filled: usize, desk: &mut D) -> Option<usize>
     requires size { length page.old ≡ 65536 }
@@ -77,7 +78,7 @@ fn put_line<D: Desk>(line: &Text, page: &mut [u8], filled: usize, desk: &mut D) 
     ensures telling { TellsMore (line.now ++ 10 ∷ []) (Some (take filled page.old))
         (option_map (λ n. take n page.new) result) (D.state desk.old) (D.state desk.new) }
 {
-    let at = place_on(page, filled, line.bytes().len() + 1, desk)?;
+    let at = place_on(page, filled, MOST + 1, desk)?;
     Some(line.put_line_on(page, at))
 }
 

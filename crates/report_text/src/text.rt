@@ -1,18 +1,21 @@
 //! A text of at most 1024 bytes as it grows, word by word and field by field.
 //! A further kind of field is one more function here; which fields a line has, its kind of report says.
-ghost use Rattle.std.specs.Prelude.{◌≡◌, ◌≤◌, ◌<◌, ◌+◌, ◌++◌, [], ◌∷◌, length, take};
+ghost use Rattle.std.specs.Prelude.{◌≡◌, ◌≤◌, ◌<◌, ◌+◌, ◌++◌, [], ◌∷◌, length, take, OnOk, OnErr};
 ghost use Rattle.std.specs.Int.{w32, w64};
 ghost use Rattle.std.specs.Fmt.{signed_decimal};
 ghost use Rattle.text_terms.specs.Forms.{natural, signed, axis_letter, letter};
 ghost use Rattle.text_terms.specs.Fields.{count, weight, point, row};
 ghost use Rattle.report_text.specs.Spelling.{behind_blanks};
 
-use shape_desk::{put_number, put_word};
-use shape_space::Point;
+use shape_desk::{put_number_behind_blank, put_word};
+use shape_space::{NoMemory, Point};
 use std::marker::Model;
 
 // A line that is shorter than this is copied with what stands behind it.
-const SHORT: usize = 64;
+const SHORT: usize = 32;
+
+// The greatest number of bytes of a text.
+pub(crate) const MOST: usize = 1024;
 
 /// A text of at most 1024 bytes.
 #[derive(Drop)]
@@ -29,6 +32,20 @@ impl Model for Text {
     ghost view = { λ t. take t.len t.bytes };
 
     ghost invariant = { λ t. (t.len ≤ 1024) × (length t.bytes ≡ 1024) };
+}
+
+// Puts a line with an LF behind bytes; these stay as they were where memory is wanting.
+fn put_longer_behind(line: &[u8], bytes: &mut Vec<u8>) -> Result<(), NoMemory>
+    ensures ok { OnOk result (bytes.new.items ≡ bytes.old.items ++ (line.now ++ 10 ∷ [])) }
+    ensures err { OnErr result (bytes.new.items ≡ bytes.old.items) }
+{
+    let before = bytes.len();
+    bytes.extend_from_slice(line)?;
+    if bytes.push(b'\n').is_err() {
+        bytes.truncate(before);
+        return Err(NoMemory);
+    }
+    Ok(())
 }
 
 impl Text {
@@ -59,24 +76,43 @@ impl Text {
         &self.bytes[..self.len]
     }
 
-    /// Copies the text with an LF to a place of a page, and answers the place behind them.
+    /// Copies the text with an LF to a place of a page that has room for the longest there, and answers the place behind them.
     ///
     /// Most lines are short: so many bytes are copied at once that they are among them, for less than it costs to copy as
     /// many as there are. What then stands behind the LF counts for nothing.
     #[inline(always)]
     pub(crate) fn put_line_on(&self, page: &mut [u8], at: usize) -> usize
-        requires { at + length self.now + 1 ≤ length page.old }
+        requires { at + 1025 ≤ length page.old }
         ensures place { result ≡ at + length self.now + 1 }
         ensures line { take result page.new ≡ take at page.old ++ (self.now ++ 10 ∷ []) }
         ensures length { length page.new ≡ length page.old }
     {
-        if self.len < SHORT && at + SHORT <= page.len() {
+        if self.len < SHORT {
+            let end = at + self.len;
             page[at..at + SHORT].copy_from_slice(&self.bytes[..SHORT]);
-            page[at + self.len] = b'\n';
-            return at + self.len + 1;
+            page[end] = b'\n';
+            return end + 1;
         }
         let end = put_word(self.bytes(), page, at);
         put_word(b"\n", page, end)
+    }
+
+    /// Copies the text with an LF behind bytes; these stay as they were where memory is wanting.
+    ///
+    /// A short one is copied as it is to a page, and what stands behind its LF is taken away again.
+    #[inline(always)]
+    pub(crate) fn put_line_behind(&self, bytes: &mut Vec<u8>) -> Result<(), NoMemory>
+        ensures ok { OnOk result (bytes.new.items ≡ bytes.old.items ++ (self.now ++ 10 ∷ [])) }
+        ensures err { OnErr result (bytes.new.items ≡ bytes.old.items) }
+    {
+        if self.len >= SHORT {
+            return put_longer_behind(self.bytes(), bytes);
+        }
+        let end = bytes.len() + self.len;
+        bytes.extend_from_slice(&self.bytes[..SHORT])?;
+        bytes[end] = b'\n';
+        bytes.truncate(end + 1);
+        Ok(())
     }
 
     /// Puts bytes behind those before.
@@ -95,8 +131,7 @@ impl Text {
         ensures text { self.new ≡ self.old ++ 32 ∷ signed_decimal n }
         ensures room { length self.new ≤ length self.old + 21 }
     {
-        let end = put_word(b" ", &mut self.bytes, self.len);
-        self.len = put_number(n, &mut self.bytes, end);
+        self.len = put_number_behind_blank(n, &mut self.bytes, self.len);
     }
 
     /// Puts a count behind a blank.

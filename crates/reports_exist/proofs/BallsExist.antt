@@ -36,7 +36,8 @@ sides_back (n ∷ sides) = ap (λ l. n ∷ l) (sides_back sides)
 
 -- ---- the fields of the lines
 
-module _ (d greatest : ℕ) (X : Picture) (picture : IsPicture d X) (range : HasSidesTo greatest X) (axes : (d ≡ 2) ⊎ (d ≡ 3)) (flat : greatest ≤ most_flat) (solid : d ≡ 3 → greatest ≤ most_solid) where
+module _ (d greatest : ℕ) (X : Picture) (picture : IsPicture d X) (range : HasSidesTo greatest X) (axes : (d ≡ 2) ⊎ (d ≡ 3)) (flat : greatest ≤ most_flat)
+    (solid : d ≡ 3 → greatest ≤ most_solid) where
   abbrev n : Point
   n = map pos X.sides
 
@@ -92,7 +93,8 @@ module _ (d greatest : ℕ) (X : Picture) (picture : IsPicture d X) (range : Has
 
   lines_fit : (balls : List Ball) → length balls < 2 ^ 32 → All (λ b. T.IsLine (Line.Ball b)) balls → All T.IsLine (listing n balls)
   lines_fit balls l fit =
-      let first = All-cons T.IsLine (Line.Balls n (length balls)) (map (λ b. Line.Ball b) balls) (sides_fit, l) (All-map T.IsLine (λ b. Line.Ball b) balls fit) in
+      let first = All-cons T.IsLine (Line.Balls n (length balls)) (map (λ b. Line.Ball b) balls) (sides_fit, l) (All-map T.IsLine (λ b. Line.Ball b) balls fit)
+      in
       let last = All-cons T.IsLine Line.End [] tt (All-nil T.IsLine) in
       All-append T.IsLine (Line.Balls n (length balls) ∷ map (λ b. Line.Ball b) balls) (Line.End ∷ []) first last
 

@@ -1,6 +1,7 @@
 -- Balls round all object points make up the object; of them those are dropped, one after another, that the others do without.
 -- Laws of pictures, balls and lists alone; nearest background points stand in `BallsNearest`.
-use Rattle.std.proofs.Common.{◌≡◌, ◌⊎◌, inl, inr, ℕ, zero, suc, ◌+◌, ◌<◌, ◌≤◌, Bool, true, false, refl, ap, sym, ◌∙◌, subst, arith, List, [], ◌∷◌, ◌++◌, length, length-append, get_or, pos, negsuc}
+use Rattle.std.proofs.Common.{◌≡◌, ◌⊎◌, inl, inr, ℕ, zero, suc, ◌+◌, ◌<◌, ◌≤◌, Bool, true, false, refl, ap, sym, ◌∙◌, subst, arith, List, [], ◌∷◌, ◌++◌, length}
+use Rattle.std.proofs.Common.{length-append, get_or, pos, negsuc}
 use Rattle.std.specs.Prelude.{IsTrue, All, AllPairs, Contains, nat_lt, ◌&&◌, ◌||◌, not}
 use Rattle.std.specs.List.{list_any}
 use Rattle.std.proofs.lemmas.Bool.{cases_Bool, and_parts, or_parts, or_cases, not-true, ltb-true, lt-ltb}
@@ -41,7 +42,8 @@ none_holds : (X : Picture) (p : Point) (balls : List Ball) → list_any (ball_ho
 none_holds X p [] e = All-nil (λ b. InBall X b p → ⊥)
 none_holds X p (b ∷ balls) e = let h = or_parts (ball_holds p b) (list_any (ball_holds p) balls) e in λ k d l. at_place k d l h.0 (none_holds X p balls h.1)
   where
-    at_place : (k : ℕ) (d : Ball) → k < length (b ∷ balls) → ball_holds p b ≡ false → All (λ b. InBall X b p → ⊥) balls → InBall X (get_or (b ∷ balls) k d) p → ⊥
+    at_place : (k : ℕ) (d : Ball) → k < length (b ∷ balls) → ball_holds p b ≡ false → All (λ b. InBall X b p → ⊥) balls → InBall X (get_or (b ∷ balls) k d) p
+        → ⊥
     at_place zero d l f h i = let t : true ≡ false = sym (lt-ltb (squared_distance b.centre p) b.s i.nearer) ∙ f in cc
     at_place (suc k) d l f h i = h k d (omega arith) i
 
@@ -249,7 +251,8 @@ module _ (X : Picture) (facts : List NearFact) (points : points_of facts ≡ obj
       let b = get_or-map (λ (f : NearFact). f.p) facts j d d.p m in
       subst (λ (q : Point). Before (get_or facts i d).p q) b (subst (λ (p : Point). Before p (get_or (points_of facts) j d.p)) a h)
 
-  own_held : (fs : List NearFact) (k : ℕ) (p : Point) → All (IsFound X) fs → k < length (points_of fs) → get_or (points_of fs) k p ≡ p → list_any (fact_holds p) fs ≡ true
+  own_held : (fs : List NearFact) (k : ℕ) (p : Point) → All (IsFound X) fs → k < length (points_of fs) → get_or (points_of fs) k p ≡ p
+      → list_any (fact_holds p) fs ≡ true
   own_held [] k p h l e = absurd (omega arith)
   own_held (f ∷ fs) zero p h l e = or_first (fact_holds p f) (list_any (fact_holds p) fs) (subst (λ (q : Point). fact_holds q f ≡ true) e centre)
     where

@@ -19,13 +19,13 @@ use Rattle.shape_terms.proofs.Senses.{sense_no_turn, straight_for}
 use Rattle.shape_terms.proofs.WalkStarts.{starts_here, starts_next}
 use Rattle.shape_terms.proofs.WalkSteps.{walk_begins, walk_goes_on}
 use Rattle.shape_terms.proofs.Walks.{walk}
-use Rattle.shape_cover.specs.Arcs.{IsHeld, IsBent}
-use Rattle.shape_cover.specs.Found.{Found, IsCoverOf}
-use Rattle.shape_cover.specs.Walking.{contour_walk}
-use Rattle.shape_cover.proofs.ContourWalks.{contour_walks, walk_is_cover}
-use Rattle.shape_cover.proofs.Searching.{shown_refused}
-use Rattle.runs_exist.proofs.RunsDecided.{IsLineFor, one_decided}
-use Rattle.runs_exist.proofs.ContoursExist.{contours_exist}
+use Rattle.shape_line.specs.Arcs.{IsHeld, IsBent}
+use Rattle.shape_line.specs.Found.{Found, IsCoverOf}
+use Rattle.shape_line.specs.Walking.{contour_walk}
+use Rattle.shape_line.proofs.ContourWalks.{contour_walks, walk_is_cover}
+use Rattle.shape_line.proofs.Searching.{shown_refused}
+use Rattle.reports_exist.proofs.RunsDecided.{IsLineFor, one_decided}
+use Rattle.reports_exist.proofs.ContoursExist.{contours_exist}
 use Rattle.reports_exist.specs.Met.{HasCovers, HasSidesTo}
 use Rattle.reports_exist.proofs.Fields.{flat_sides}
 use Rattle.reports_exist.proofs.PiecesExist.{arc_near, arc_decided}

@@ -20,7 +20,7 @@ use Rattle.edge_terms.proofs.CornerPaths.{cycle_path}
 use Rattle.edge_terms.proofs.EdgeCycles.{no_contour}
 use Rattle.shape_edges.specs.Growing.{Tells, HasTold, IsFoundAt, with_arcs, with_gaps}
 use Rattle.shape_edges.proofs.Growing.{arc_fits, gap_fits, sides_told, cycle_told, arc_told, gap_told, arcs_all, gaps_all, found_at, all_told}
-use Rattle.runs_exist.proofs.ContoursExist.{contours_exist}
+use Rattle.reports_exist.proofs.ContoursExist.{contours_exist}
 use Rattle.reports_exist.specs.Met.{IsMet, HasSidesTo}
 use Rattle.reports_exist.proofs.Fields.{AreFlatSides, flat_sides, pixel_fits}
 use Rattle.reports_exist.proofs.EdgesExist.{edges_exist}

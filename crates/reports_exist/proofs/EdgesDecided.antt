@@ -19,8 +19,8 @@ use Rattle.edge_terms.specs.EdgeCovers.{IsHeld, IsGap}
 use Rattle.edge_terms.proofs.Shearing.{step_across, step_down, line_by, standard_by, flat_line, flat_from}
 use Rattle.edge_terms.proofs.ShearedRuns.{GoneBy, sheared_change, fold_by}
 use Rattle.shape_edges.proofs.Growth.{close_sheared, short_weights}
-use Rattle.runs_exist.proofs.SmallRuns.{IsSmallPoint, IsWithin, product_within}
-use Rattle.runs_exist.proofs.RunsDecided.{IsLineFor, IsNearRun, decided}
+use Rattle.reports_exist.proofs.SmallRuns.{IsSmallPoint, IsWithin, product_within}
+use Rattle.reports_exist.proofs.RunsDecided.{IsLineFor, IsNearRun, decided}
 use Rattle.reports_exist.proofs.StepSigns.{signs_told}
 
 -- the run is not long, its points are corners, and each is one unit step from the one before it
@@ -143,7 +143,8 @@ module _ (run : List Point) (r : IsCornerRun run) (n : ℕ) (all : n + 1 ≡ len
         wide : (m z : ℤ) → m ≤ℤ pos (line_gap + 1) → IsWithin m z → IsWithin (pos (line_gap + 1)) z
         wide m z l w = let a = w.low in let b = w.high in record { low = omega (arith, ints); high = omega (arith, ints) }
 
-        sum : (u w m : ℤ) (a c : ℕ) → a ≤ line_gap + 1 → c ≤ line_gap + 1 → IsWithin (pos ((line_gap + 1) * (line_gap + 1))) u → IsWithin (pos ((line_gap + 1) * (line_gap + 1))) w → IsWithin (pos (3 * line_area)) m
+        sum : (u w m : ℤ) (a c : ℕ) → a ≤ line_gap + 1 → c ≤ line_gap + 1 → IsWithin (pos ((line_gap + 1) * (line_gap + 1))) u
+            → IsWithin (pos ((line_gap + 1) * (line_gap + 1))) w → IsWithin (pos (3 * line_area)) m
             → nat_abs ((u -ℤ w) -ℤ m -ℤ (pos a +ℤ pos c) +ℤ pos 1) < 2 ^ 63
         sum u w m a c la lc hu hw hm =
             let ul = hu.low in
@@ -157,7 +158,8 @@ module _ (run : List Point) (r : IsCornerRun run) (n : ℕ) (all : n + 1 ≡ len
         natural : (a : ℕ) → a ≤ line_gap + 1 → IsWithin (pos (line_gap + 1)) (pos a)
         natural a l = record { low = omega (arith, ints); high = omega (arith, ints) }
 
-        bound : (a c : ℕ) (x y m : ℤ) → a ≤ line_gap + 1 → c ≤ line_gap + 1 → IsWithin (pos most_flat) x → IsWithin (pos most_flat) y → IsWithin (pos (3 * line_area)) m
+        bound : (a c : ℕ) (x y m : ℤ) → a ≤ line_gap + 1 → c ≤ line_gap + 1 → IsWithin (pos most_flat) x → IsWithin (pos most_flat) y
+            → IsWithin (pos (3 * line_area)) m
             → nat_abs ((pos a *ℤ x -ℤ pos c *ℤ y) -ℤ m -ℤ (pos a +ℤ pos c) +ℤ pos 1) < 2 ^ 63
         bound a c x y m la lc hx hy hm =
             let p = product_within (pos (line_gap + 1)) (pos a) x (natural a la) (wide (pos most_flat) x (omega (arith, ints)) hx) in

@@ -1,3 +1,8 @@
+pub mod ContoursExist
+pub mod SmallRuns
+pub mod SegmentsGrow
+pub mod RunsDecided
+pub mod PartsExist
 pub mod Fields
 pub mod PiecesExist
 pub mod PieceTexts

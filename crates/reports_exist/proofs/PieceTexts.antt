@@ -18,7 +18,7 @@ use Rattle.shape_pieces.specs.Steps.{AreShortPieces}
 use Rattle.shape_pieces.specs.Growing.{HasSplits, HasPieces, IsContourAt}
 use Rattle.shape_pieces.proofs.Fits.{piece_fits, gap_fits}
 use Rattle.shape_pieces.proofs.Growth.{heading_put, end_put, chain_put, last_put, gaps_put, split_put}
-use Rattle.runs_exist.proofs.ContoursExist.{contours_exist}
+use Rattle.reports_exist.proofs.ContoursExist.{contours_exist}
 use Rattle.reports_exist.specs.Met.{IsMet, HasSidesTo}
 use Rattle.reports_exist.proofs.Fields.{AreFlatSides, flat_sides, sides_fit, pixel_fits}
 use Rattle.reports_exist.proofs.PiecesExist.{pieces_exist}

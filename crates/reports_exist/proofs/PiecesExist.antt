@@ -13,13 +13,13 @@ use Rattle.shape_terms.specs.Traces.{IsClosedPath}
 use Rattle.shape_terms.proofs.ArcRuns.{length-arc, arc-get}
 use Rattle.shape_terms.proofs.Boxes.{in_box_first, in_box_length}
 use Rattle.shape_line.specs.Evidence.{IsShown}
-use Rattle.shape_cover.proofs.Backs.{close_next}
-use Rattle.shape_cover.proofs.Searching.{shown_refused}
+use Rattle.shape_line.proofs.Backs.{close_next}
+use Rattle.shape_line.proofs.Searching.{shown_refused}
 use Rattle.piece_terms.specs.Pieces.{Piece, ArePieces}
 use Rattle.shape_pieces.specs.Steps.{IsPieceFrom, AreShortPieces, AreFront}
 use Rattle.shape_pieces.proofs.Fronting.{one_more, ends_whole, short_pieces}
-use Rattle.runs_exist.proofs.SmallRuns.{IsSmallPoint}
-use Rattle.runs_exist.proofs.RunsDecided.{IsLineFor, IsDecided, IsNearRun, decided, one_decided}
+use Rattle.reports_exist.proofs.SmallRuns.{IsSmallPoint}
+use Rattle.reports_exist.proofs.RunsDecided.{IsLineFor, IsDecided, IsNearRun, decided, one_decided}
 
 -- a point of a box of these sides is small
 small_in : (side : ℕ) → side ≤ most_flat → (p : Point) → IsTrue (in_box (side ∷ side ∷ []) p) → IsSmallPoint p

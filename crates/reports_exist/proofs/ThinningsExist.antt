@@ -1,6 +1,7 @@
 -- Each flat picture has a thinning by each rule: the least candidate is looked for, again and again, among the places that may still be one.
 -- Whether a point is simple is told by the mask of its neighbours; distances are looked for in the framed box.
-use Rattle.std.proofs.Common.{◌≡◌, ◌≢◌, ◌⊎◌, inl, inr, ℕ, zero, suc, ◌+◌, ◌<◌, ◌≤◌, Bool, true, false, refl, ap, sym, ◌∙◌, subst, arith, List, [], ◌∷◌, ◌++◌, length, length-append, map}
+use Rattle.std.proofs.Common.{◌≡◌, ◌≢◌, ◌⊎◌, inl, inr, ℕ, zero, suc, ◌+◌, ◌<◌, ◌≤◌, Bool, true, false, refl, ap, sym, ◌∙◌, subst, arith, List, [], ◌∷◌, ◌++◌}
+use Rattle.std.proofs.Common.{length, length-append, map}
 use Rattle.std.specs.Prelude.{IsTrue, Contains, slice_index_or, ◌↔◌, if◌then◌else◌}
 use Rattle.std.specs.List.{FoldsTo}
 use Rattle.std.specs.Int.{bit_at}
@@ -17,7 +18,8 @@ use Rattle.shape_terms.specs.Parts.{Object}
 use Rattle.shape_terms.specs.Simple.{IsSimple}
 use Rattle.shape_terms.specs.Steps.{Before}
 use Rattle.shape_terms.specs.Adjacency.{moved}
-use Rattle.shape_terms.specs.Thinning.{Rule, Facts, Event, Stage, IsCandidate, HasDistance, near_count, IsNext, ThinStep, IsThinned, IsThinning, event_at, stage_after, opening_stage}
+use Rattle.shape_terms.specs.Thinning.{Rule, Facts, Event, Stage, IsCandidate, HasDistance, near_count, IsNext, ThinStep, IsThinned, IsThinning, event_at}
+use Rattle.shape_terms.specs.Thinning.{stage_after, opening_stage}
 use Rattle.shape_terms.proofs.Boxes.{raster_point_in, raster_number-raster_point, raster_point-raster_number, raster_below}
 use Rattle.shape_terms.proofs.FramedBoxes.{length-framed_point}
 use Rattle.shape_terms.proofs.LinkTests.{row_is}

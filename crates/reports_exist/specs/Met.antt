@@ -6,7 +6,7 @@ use Rattle.shape_terms.specs.Pictures.{Picture}
 use Rattle.shape_terms.specs.Parts.{Counts}
 use Rattle.shape_terms.specs.Thinning.{Rule, Event, Stage, IsThinning}
 use Rattle.shape_terms.specs.Traces.{Contour, AreContours}
-use Rattle.shape_cover.specs.Found.{Found, IsCoverOf}
+use Rattle.shape_line.specs.Found.{Found, IsCoverOf}
 use Rattle.text_terms.specs.Reports.{Report, Holds}
 
 -- some text holds as such a report

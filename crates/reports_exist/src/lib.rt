@@ -1,5 +1,5 @@
 //! Reports exist, and the counts, covers and thinnings that they tell: some text holds as the report of each picture within the sides of a command.
-//! So no maker's contract is met by giving up alone. What counts are the clauses; each function has an empty body.
+//! So no maker's contract is met by giving up alone. What counts are the clauses; each function has an empty body. That contours and straight runs are there is told in `proofs/`.
 #![tactic(auto)]
 
 ghost use Rattle.shape_terms.specs.Limits.{most_flat, most_solid};

@@ -5,9 +5,9 @@ ghost use Rattle.shape_terms.specs.Limits.{most_coordinate};
 
 use crate::case::wanting;
 use crate::numbers::{count, picture, point};
-use finder_tests::mask::is_simple_mask;
 use shape_adj::{Pairing, labels};
 use shape_space::{P2, Point, Sides};
+use shape_tests::mask::is_simple_mask;
 use shape_topo::{SimpleMask, background_number, object_number};
 use std::alloc::Global;
 use std::io;

@@ -2,7 +2,7 @@
 //! A further measure of labels is one more word here.
 use crate::case::wanting;
 use crate::numbers::picture;
-use moments::{Moments, second_moments};
+use measuring::{Moments, second_moments};
 use shape_adj::{Pairing, labels};
 use std::alloc::Global;
 use std::io;

@@ -1,7 +1,8 @@
 -- What a run of the program did, from what the calls of its parts ensure.
 -- Each law goes through the outcomes once.
-use Rattle.std.proofs.Common.{◌≡◌, ◌⊎◌, inl, inr, ℕ, List, [], ◌∷◌, None, refl, ap, sym, subst, ◌∙◌, arith}
-use Rattle.std.specs.Prelude.{◌↔◌, codes}
+use Rattle.std.proofs.Common.{◌≡◌, ◌⊎◌, inl, inr, ℕ, List, ◌∷◌, refl, ap, sym, subst, ◌∙◌, arith}
+use Rattle.std.specs.Prelude.{◌↔◌, is_ok}
+use Rattle.std.proofs.lemmas.Bool.{cases_Bool}
 use Rattle.shape_terms.specs.Thinning.{Rule}
 use Rattle.shape_terms.specs.Shelves.{Named, names_of}
 use Rattle.shape_desk.specs.Desk.{DeskState}
@@ -13,11 +14,12 @@ use Rattle.shape_cli.specs.Runs as Command
 use Rattle.shape_cli.specs.Outcomes as CommandOutcomes
 use Rattle.shape_cli.specs.declared.outcome.Outcome.{Outcome as CommandOutcome}
 use Rattle.shape_cli.specs.declared.outcome.Outcome.TheVariants as command
-use Rattle.report_making.specs.Outcomes as ProductOutcomes
-use Rattle.report_making.specs.declared.outcome.Outcome.{Outcome as ProductOutcome}
-use Rattle.report_making.specs.declared.outcome.Outcome.TheVariants as made
+use Rattle.report_lines.specs.declared.outcome.Outcome.{Outcome as ProductOutcome}
+use Rattle.report_lines.specs.declared.outcome.Outcome.TheVariants as made
+use Rattle.shape.specs.Pages.{IsWayTo, page_text}
+use Rattle.shape.specs.declared.page.Page.{Page}
 use Rattle.shape.specs.Products.{product_word, usage_of, AreNoWords, Ran}
-use Rattle.shape.specs.Runs.{AreNoForm, IsUsageOf, Shows, ShowsCommand, ShowsProduct, Refused, RanCommand, RanProduct, HasEnded}
+use Rattle.shape.specs.Runs.{AreNoForm, IsUsageOf, ShowsCommand, ShowsProduct, Refused, PrintsPage, HasEnded}
 use Rattle.shape.specs.declared.product.Product.{Product}
 use Rattle.shape.specs.declared.ending.Ending.{Ending}
 use Rattle.shape.proofs.FormsApart.{no_command, same_product}
@@ -25,11 +27,12 @@ use Rattle.shape.proofs.FormsApart.{no_command, same_product}
 -- ---- words of no form
 
 refused : (words : List (List ℕ)) (old new : DeskState) (e : Ending) → Refused words old new e → HasEnded words old new e
-refused words old new e r = record { did = inl r; two = (λ _. r.none, λ _. r.shown.status_is); usage = λ _. subst (IsUsageOf words) (sym r.shown.text_is) r.usage }
+refused words old new e r =
+    record { did = inl r; two = (λ _. r.none, λ _. r.shown.status_is); usage = λ _. subst (IsUsageOf words) (sym r.shown.text_is) r.usage }
 
 -- ---- products
 
-module _ (p : Product) (rest : List (List ℕ)) where
+module _ (p : Product) (rest : List (List ℕ)) (page : (q : Page) → IsWayTo q (product_word p ∷ rest) → ⊥) where
   -- words that a product does not take behind its own are of no form
   no_product : AreNoWords p rest → AreNoForm (product_word p ∷ rest)
   no_product none = record {
@@ -38,6 +41,7 @@ module _ (p : Product) (rest : List (List ℕ)) where
         let w : product_word p ≡ product_word q = cc in
         let r : rest ≡ more = cc in
         subst (λ x. AreNoWords x more) (same_product p q w) (subst (AreNoWords p) r none);
+    page = page;
   }
 
   -- and get the usage of the product
@@ -52,9 +56,11 @@ module _ (p : Product) (rest : List (List ℕ)) where
   taken_form taken none = taken (none.product p rest refl)
 
   module _ (old new : DeskState) (e : Ending) where
-    pub product_ended : (o : ProductOutcome) → (o ≡ made.Usage) ↔ AreNoWords p rest → (o ≡ made.Usage → new ≡ old) → Ran p rest old new o → ShowsProduct p o e → HasEnded (product_word p ∷ rest) old new e
+    pub product_ended : (o : ProductOutcome) → (o ≡ made.Usage) ↔ AreNoWords p rest → (o ≡ made.Usage → new ≡ old) → Ran p rest old new o → ShowsProduct p o e
+        → HasEnded (product_word p ∷ rest) old new e
     product_ended made.Usage usage untouched ran shown =
-        refused (product_word p ∷ rest) old new e (record { none = no_product (usage.0 refl); untouched = untouched refl; text = usage_of p; usage = its_usage; shown = shown })
+        refused (product_word p ∷ rest) old new e
+        (record { none = no_product (usage.0 refl); untouched = untouched refl; text = usage_of p; usage = its_usage; shown = shown })
     product_ended o usage untouched ran shown =
         let taken : AreNoWords p rest → ⊥ = λ n. let u = usage.1 n in cc in
         let other : e.status ≡ 2 → ⊥ = λ two. let s = sym shown.status_is ∙ two in omega (arith, s) in
@@ -66,18 +72,22 @@ module _ (p : Product) (rest : List (List ℕ)) where
 
 -- ---- commands
 
-module _ (words : List (List ℕ)) (none : (p : Product) (rest : List (List ℕ)) → words ≡ product_word p ∷ rest → ⊥) (old new : DeskState) (e : Ending) where
+module _ (words : List (List ℕ)) (none : (p : Product) (rest : List (List ℕ)) → words ≡ product_word p ∷ rest → ⊥) (page : (q : Page) → IsWayTo q words → ⊥)
+    (old new : DeskState) (e : Ending) where
   no_command_words : IsNoForm (names_of program_rules) words → AreNoForm words
-  no_command_words c = record { command = c; product = λ p rest s. absurd (none p rest s) }
+  no_command_words c = record { command = c; product = λ p rest s. absurd (none p rest s); page = page }
 
   usage_of_all : IsUsageOf words CommandOutcomes.usage_text
   usage_of_all = record { product = λ p rest s. absurd (none p rest s); other = λ _. refl }
 
   -- words of no form, where nothing was done
   pub words_refused : IsNoForm (names_of program_rules) words → new ≡ old → ShowsCommand command.Usage e → HasEnded words old new e
-  words_refused no_form same shown = refused words old new e (record { none = no_command_words no_form; untouched = same; text = CommandOutcomes.usage_text; usage = usage_of_all; shown = shown })
+  words_refused no_form same shown =
+      refused words old new e
+      (record { none = no_command_words no_form; untouched = same; text = CommandOutcomes.usage_text; usage = usage_of_all; shown = shown })
 
-  asked : (o : CommandOutcome) → HasRun program_rules words old new o → (o ≡ command.Usage → ⊥) → Asks (names_of program_rules) words (λ c. Command.Ran program_rules c old new o)
+  asked : (o : CommandOutcome) → HasRun program_rules words old new o → (o ≡ command.Usage → ⊥)
+      → Asks (names_of program_rules) words (λ c. Command.Ran program_rules c old new o)
   asked o h other = elim h.ran [ inl a ↦ a | inr n ↦ absurd (other (h.usage.1 n)) ]
 
   pub command_ended : (o : CommandOutcome) → HasRun program_rules words old new o → ShowsCommand o e → HasEnded words old new e
@@ -92,18 +102,38 @@ module _ (words : List (List ℕ)) (none : (p : Product) (rest : List (List ℕ)
       }
 
 -- a run of the words of a command, by rules that are those of the program
-pub run_ended : (words : List (List ℕ)) (none : (p : Product) (rest : List (List ℕ)) → words ≡ product_word p ∷ rest → ⊥) (old new : DeskState) (e : Ending) (rules : List (Named Rule)) (o : CommandOutcome) → rules ≡ program_rules
-    → (o ≡ command.Usage) ↔ IsNoForm (names_of rules) words → (o ≡ command.Usage → new ≡ old) → Asks (names_of rules) words (λ c. Command.Ran rules c old new o) ⊎ IsNoForm (names_of rules) words → KeepsFiles old new → ShowsCommand o e → HasEnded words old new e
-run_ended words none old new e rules o same usage untouched ran kept shown =
-    command_ended words none old new e o (subst (λ r. HasRun r words old new o) same (record { usage = usage; untouched = untouched; ran = ran; kept = kept })) shown
+pub run_ended : (words : List (List ℕ)) (none : (p : Product) (rest : List (List ℕ)) → words ≡ product_word p ∷ rest → ⊥)
+    (page : (q : Page) → IsWayTo q words → ⊥) (old new : DeskState) (e : Ending) (rules : List (Named Rule)) (o : CommandOutcome) → rules ≡ program_rules
+    → (o ≡ command.Usage) ↔ IsNoForm (names_of rules) words → (o ≡ command.Usage → new ≡ old) → Asks (names_of rules) words (λ c. Command.Ran rules c old new o)
+    ⊎ IsNoForm (names_of rules) words → KeepsFiles old new → ShowsCommand o e → HasEnded words old new e
+run_ended words none page old new e rules o same usage untouched ran kept shown =
+    command_ended words none page old new e o
+    (subst (λ r. HasRun r words old new o) same (record { usage = usage; untouched = untouched; ran = ran; kept = kept })) shown
 
 -- ---- no memory for the rules
 
-pub memory_lacked : (words : List (List ℕ)) (old new : DeskState) (e : Ending) → (IsNoForm (names_of program_rules) words → ⊥) → new ≡ old → ShowsCommand command.NoMemory e → HasEnded words old new e
+pub memory_lacked : (words : List (List ℕ)) (old new : DeskState) (e : Ending) → (IsNoForm (names_of program_rules) words → ⊥) → new ≡ old
+    → ShowsCommand command.NoMemory e → HasEnded words old new e
 memory_lacked words old new e form same shown =
     let other : e.status ≡ 2 → ⊥ = λ two. let s = sym shown.status_is ∙ two in omega (arith, s) in
     record {
-      did = inr (inr (inr (record { untouched = same; shown = shown })));
+      did = inr (inr (inr (inr (record { untouched = same; shown = shown }))));
       two = (λ two. absurd (other two), λ n. absurd (form n.command));
+      usage = λ two. absurd (other two);
+    }
+
+-- ---- pages
+
+-- a page that was printed
+pub page_ended : (words : List (List ℕ)) (old new : DeskState) (e : Ending) (page : Page) → IsWayTo page words → PrintsPage (page_text page) old new e
+    → HasEnded words old new e
+page_ended words old new e page asked printed =
+    let other : e.status ≡ 2 → ⊥ = λ two. elim (cases_Bool (is_ok printed.result)) [
+      | inl t ↦ (let s = sym (printed.done t).status_is ∙ two in omega (arith, s))
+      | inr f ↦ (let s = sym (printed.failed f).status_is ∙ two in omega (arith, s))
+    ] in
+    record {
+      did = inr (inr (inr (inl (record { page = page; asked = asked; printed = printed }))));
+      two = (λ two. absurd (other two), λ n. absurd (n.page page asked));
       usage = λ two. absurd (other two);
     }

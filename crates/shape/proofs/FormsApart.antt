@@ -1,10 +1,8 @@
 -- No words are those of a command and of a product, or of two products.
 -- That the first words differ is found by computing.
 use Rattle.std.proofs.Common.{◌≡◌, ℕ, List, ◌∷◌, None, Some, get_or, refl, ap, sym, ◌∙◌, arith}
-use Rattle.std.specs.Prelude.{Option}
-use Rattle.shape_cli.specs.Commands.{Asked, First, begin_with, first_of, first_word, words_of, IsNoForm}
-use Rattle.shape.specs.Products.{product_word, AreNoWords}
-use Rattle.shape.specs.Runs.{AreNoForm, IsUsageOf}
+use Rattle.shape_cli.specs.Commands.{Asked, First, begin_with, first_of, first_word, words_of}
+use Rattle.shape.specs.Products.{product_word}
 use Rattle.shape.specs.declared.product.Product.{Product}
 use Rattle.shape.specs.declared.product.Product.TheVariants as product
 

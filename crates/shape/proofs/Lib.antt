@@ -1,2 +1,3 @@
 mod FormsApart
 mod Ended
+mod SlipSteps

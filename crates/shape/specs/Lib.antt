@@ -1,2 +1,4 @@
+pub mod Pages
 pub mod Products
 pub mod Runs
+pub mod Slips

@@ -4,9 +4,9 @@ ghost use Rattle.std.specs.Prelude.{◌≡◌, ◌≢◌, codes, None};
 ghost use Rattle.std.specs.IoError.{error_kind};
 ghost use Rattle.std.specs.declared.io.ErrorKind.TheVariants.{OutOfMemory};
 ghost use Rattle.shape.specs.Runs.{Shows, ShowsCommand, ShowsProduct};
-ghost use Rattle.report_making.specs.Outcomes as Products;
+ghost use Rattle.report_lines.specs.Outcomes as Products;
 
-use report_making::Outcome as ProductOutcome;
+use report_lines::Outcome as ProductOutcome;
 use shape_cli::Outcome;
 use std::io;
 

@@ -4,7 +4,7 @@ ghost use Rattle.std.specs.Prelude.{◌≡◌, ◌≢◌, ◌↔◌, ◌∷◌, 
 ghost use Rattle.shape_desk.specs.Files.{KeepsFiles, texts};
 ghost use Rattle.shape.specs.Products.{product_word, usage_of, AreNoWords, Ran};
 
-use report_making::Outcome;
+use report_lines::Outcome;
 use shape_desk::Desk;
 use std::alloc::Global;
 

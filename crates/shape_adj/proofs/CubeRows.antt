@@ -1,6 +1,7 @@
 -- The cube of the points around a point: its rows of three points beside one another, and the near neighbours, which are all but its centre.
 -- Laws over plain lists and numbers; the loop over the rows goes by them.
-use Rattle.std.proofs.Common.{◌≡◌, ◌⊎◌, inl, inr, ◌+◌, ◌-◌, ◌*◌, ◌/◌, ◌%◌, ◌<◌, ◌≤◌, ℕ, zero, suc, ℤ, pos, negsuc, ◌+ℤ◌, ◌-ℤ◌, Bool, false, List, [], ◌∷◌, ◌++◌, length, get_or, take, drop, refl, ap, sym, ◌∙◌, subst, arith}
+use Rattle.std.proofs.Common.{◌≡◌, ◌⊎◌, inl, inr, ◌+◌, ◌-◌, ◌*◌, ◌/◌, ◌%◌, ◌<◌, ◌≤◌, ℕ, zero, suc, ℤ, pos, negsuc, ◌+ℤ◌, ◌-ℤ◌, Bool, false, List, [], ◌∷◌, ◌++◌}
+use Rattle.std.proofs.Common.{length, get_or, take, drop, refl, ap, sym, ◌∙◌, subst, arith}
 use Rattle.std.specs.Prelude.{IsTrue, nat_abs}
 use Rattle.std.specs.List.{flat_map}
 use Rattle.std.specs.Int.{bit_at}
@@ -38,7 +39,8 @@ module _ (d h : ℕ) (c : IsCentre d h) where
   -- the near neighbours before the centre have the numbers of the cube
   pub near_before : (k : ℕ) → k < h → near_step d k ≡ cube_step d k
   near_before k l =
-      ap (λ s. get_or s k []) c.steps ∙ get_or_append_left (take h (cube_steps d)) (drop (h + 1) (cube_steps d)) [] k (omega (arith, long)) ∙ get_or-take h (cube_steps d) k [] l
+      ap (λ s. get_or s k []) c.steps ∙ get_or_append_left (take h (cube_steps d)) (drop (h + 1) (cube_steps d)) [] k (omega (arith, long))
+      ∙ get_or-take h (cube_steps d) k [] l
 
   -- and those behind it one less
   pub near_behind : (k : ℕ) → h ≤ k → near_step d k ≡ cube_step d (k + 1)
@@ -60,7 +62,8 @@ module _ (d h : ℕ) (c : IsCentre d h) where
 -- ---- the rows
 
 -- each step of the axes behind the first begins a row
-row_step : (vs : List Point) (r b : ℕ) → r < length vs → b < 3 → get_or (flat_map (λ v. (negsuc 0 ∷ v) ∷ (pos 0 ∷ v) ∷ (pos 1 ∷ v) ∷ []) vs) (3 * r + b) [] ≡ (pos b -ℤ pos 1) ∷ get_or vs r []
+row_step : (vs : List Point) (r b : ℕ) → r < length vs → b < 3 → get_or (flat_map (λ v. (negsuc 0 ∷ v) ∷ (pos 0 ∷ v) ∷ (pos 1 ∷ v) ∷ []) vs) (3 * r + b) []
+    ≡ (pos b -ℤ pos 1) ∷ get_or vs r []
 row_step [] r b l m = absurd (omega arith)
 row_step (v ∷ vs) zero zero l m = refl
 row_step (v ∷ vs) zero (suc zero) l m = refl
@@ -84,7 +87,8 @@ beside n sides x q b h =
     omega arith
 
 -- so the numbers of a row's points follow one another
-pub row_number : (sides : List ℕ) (p : Point) (r b : ℕ) → 3 * r + 2 < cube_total (length p) → b < 3 → 0 < length p → IsTrue (in_box sides (cube_point p (3 * r)))
+pub row_number : (sides : List ℕ) (p : Point) (r b : ℕ) → 3 * r + 2 < cube_total (length p) → b < 3 → 0 < length p
+    → IsTrue (in_box sides (cube_point p (3 * r)))
     → raster_number sides (cube_point p (3 * r + b)) ≡ raster_number sides (cube_point p (3 * r)) + b
 row_number sides [] r b l m some h = absurd (omega arith)
 row_number [] (x ∷ p) r b l m some h =
@@ -118,7 +122,8 @@ module _ (sides : List ℕ) (p : Point) (h : ℕ) (c : IsCentre (length p) h) wh
           | yes m ↦ subst (λ (q : Point). IsTrue (in_box sides q)) (ap (moved p) (near_before (length p) h c j m)) (inner j (omega arith))
           | no m ↦ (
               let e : j - 1 + 1 ≡ j = omega arith in
-              subst (λ (q : Point). IsTrue (in_box sides q)) (ap (moved p) (near_behind (length p) h c (j - 1) (omega arith) ∙ ap (cube_step (length p)) e)) (inner (j - 1) (omega arith)))
+              subst (λ (q : Point). IsTrue (in_box sides q)) (ap (moved p) (near_behind (length p) h c (j - 1) (omega arith) ∙ ap (cube_step (length p)) e))
+              (inner (j - 1) (omega arith)))
         ]
       ]
 
@@ -133,14 +138,17 @@ pub record IsInner (sides : List ℕ) (p : Point) (n : ℕ) : Type 0 where
   pub inside : (j : ℕ) → j < cube_total (length p) → IsTrue (in_box sides (cube_point p j))
 
 -- such is a point whose near neighbours are all in the box
-pub inner_of : (lengths : Point) (i d total n : ℕ) → i < box_count (sides_of lengths) → length lengths ≡ d → (d ≡ 2) ⊎ (d ≡ 3) → total ≡ near_total d → n ≡ total
-    → ((k : ℕ) → k < total → IsTrue (in_box (sides_of lengths) (near_point (raster_point (sides_of lengths) i) k))) → IsInner (sides_of lengths) (raster_point (sides_of lengths) i) n
+pub inner_of : (lengths : Point) (i d total n : ℕ) → i < box_count (sides_of lengths) → length lengths ≡ d → (d ≡ 2) ⊎ (d ≡ 3) → total ≡ near_total d
+    → n ≡ total
+    → ((k : ℕ) → k < total → IsTrue (in_box (sides_of lengths) (near_point (raster_point (sides_of lengths) i) k)))
+    → IsInner (sides_of lengths) (raster_point (sides_of lengths) i) n
 inner_of lengths i d total n b axes two t e inner =
     let sides = sides_of lengths in
     let p = raster_point sides i in
     let f : length p ≡ d = length-raster_point sides i ∙ length-map lengths nat_abs ∙ axes in
     let all : n ≡ near_total (length p) = e ∙ t ∙ ap near_total (sym f) in
-    let centre : IsCentre (length p) (n / 2) = subst (λ x. IsCentre (length p) (x / 2)) (sym all) (centre_of (length p) (subst (λ x. (x ≡ 2) ⊎ (x ≡ 3)) (sym f) two)) in
+    let centre : IsCentre (length p) (n / 2) = subst (λ x. IsCentre (length p) (x / 2)) (sym all)
+    (centre_of (length p) (subst (λ x. (x ≡ 2) ⊎ (x ≡ 3)) (sym f) two)) in
     record {
       centre = centre;
       all = all;
@@ -178,7 +186,8 @@ module _ (sides : List ℕ) (p : Point) (n r : ℕ) (q : IsInner sides p n) (wit
         omega arith
 
     -- three values in a row are those of the row's points
-    pub row_values : (values : List Bool) (i t : ℕ) → i ≡ raster_number sides (near_point p k) → AreThree values i t → IsRowMask (record { sides = sides; values = values }) p r t
+    pub row_values : (values : List Bool) (i t : ℕ) → i ≡ raster_number sides (near_point p k) → AreThree values i t
+        → IsRowMask (record { sides = sides; values = values }) p r t
     row_values values i t e three b = ((λ j. let a = (three b).0 j in (a.0, value a.0 ∙ a.1)), λ j. (three b).1 (j.0, sym (value j.0) ∙ j.1))
       where
         value : b < 3 → at (record { sides = sides; values = values }) (cube_point p (3 * r + b)) ≡ get_or values (i + b) false

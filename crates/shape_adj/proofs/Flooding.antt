@@ -1,6 +1,6 @@
 -- Labelling the components of a set one after the other: the steps of a flood, over any set and adjacency.
 -- A step is a lemma that leads from one fact of `Flood` to the next; no list or program stands here.
-use Rattle.std.proofs.Common.{◌≡◌, ◌≢◌, ℕ, suc, ◌≤◌, arith, sym, ◌∙◌, ap, subst, ◌⊎◌, inl, inr}
+use Rattle.std.proofs.Common.{◌≡◌, ℕ, suc, ◌≤◌, arith, sym, ◌∙◌, ◌⊎◌, inl, inr}
 use native.Mathlib.Decide.{dec_le}
 use Rattle.shape_terms.specs.Parts.{Connected, NamesParts}
 use Rattle.shape_terms.proofs.Paths.{joined_to, turned_back, in_greater}
@@ -19,7 +19,8 @@ module _ {A : Type 0} {R : A → A → Type 0} {Y Z : A → Type 0} (to : (a : A
   }
 
 -- the same labels under another function
-module _ {A : Type 0} {R : A → A → Type 0} {Y Z : A → Type 0} {f g : A → ℕ} (to : (a : A) → Y a → Z a) (of : (a : A) → Z a → Y a) (e : (a : A) → Y a → g a ≡ f a) where
+module _ {A : Type 0} {R : A → A → Type 0} {Y Z : A → Type 0} {f g : A → ℕ} (to : (a : A) → Y a → Z a) (of : (a : A) → Z a → Y a)
+    (e : (a : A) → Y a → g a ≡ f a) where
   pub named_alike : {n : ℕ} → NamesParts R Y n f → NamesParts R Z n g
   named_alike {n} k = record {
     in_range = λ p z. let a = k.in_range p (of p z) in let b = e p (of p z) in (omega arith, omega arith);
@@ -62,30 +63,35 @@ module _ {A : Type 0} {R : A → A → Type 0} {Y : A → Type 0} {n : ℕ} {f :
 
 -- ---- the steps of a flood
 
-module _ {A : Type 0} (dec : (a b : A) → Dec (a ≡ b)) {O : A → Type 0} {R : A → A → Type 0} (flip : (p q : A) → R p q → R q p) where
-  -- a new part begins
-  pub flood_start : {n : ℕ} {f g : A → ℕ} (s : A) → Flooded O R n f → O s → f s ≡ 0 → Put f g s (suc n) → Flooding O R n s (λ x. x ≡ s) g
-  flood_start {n} {f} {g} s w o z u = record {
+module _ {A : Type 0} {O : A → Type 0} {R : A → A → Type 0} (flip : (p q : A) → R p q → R q p) where
+  -- a new part begins with the points of Q, which are connected with s
+  pub flood_start : {n : ℕ} {f g : A → ℕ} {Q : A → Type 0} (dec : (x : A) → Dec (Q x)) (s : A) → Flooded O R n f → Q s → ((x : A) → Q x → O x)
+      → ((x : A) → Q x → f x ≡ 0) → Put f g Q (suc n) → ((x : A) → Q x → Connected R (λ y. g y ≡ suc n) s x) → Flooding O R n s Q g
+  flood_start {n} {f} {g} {Q} dec s w first o z u joined = record {
     member = is_member;
     top = top;
     old_shut = old_shut;
     old = named_alike to of same w.parts;
-    seed = u.here;
-    grown = λ p e. elim (dec p s) [ yes h ↦ subst (λ x. Connected R (λ q. g q ≡ suc n) s x) (sym h) (Connected.here u.here) | no h ↦ absurd (let a = other p h in let b = up p in omega arith) ];
-    edge = λ p q e h oq r. elim (dec p s) [ yes i ↦ absurd (h i) | no i ↦ absurd (let a = other p i in let b = up p in omega arith) ];
+    seed = u.here s first;
+    grown = λ p e. elim (dec p) [
+      | yes h ↦ joined p h
+      | no h ↦ absurd
+          (let a = other p h in let b = up p in omega arith)
+    ];
+    edge = λ p q e h oq r. elim (dec p) [ yes i ↦ absurd (h i) | no i ↦ absurd (let a = other p i in let b = up p in omega arith) ];
   }
     where
       up : (p : A) → f p ≤ n
       up p = elim (dec_le 1 (f p)) [ yes h ↦ (w.parts.in_range p h).1 | no h ↦ omega arith ]
 
-      other : (p : A) → p ≢ s → g p ≡ f p
+      other : (p : A) → (Q p → ⊥) → g p ≡ f p
       other p h = u.there p h
 
-      new : (p : A) → 1 ≤ g p → g p ≤ n → p ≢ s
-      new p a b e = let h : g p ≡ suc n = ap g e ∙ u.here in omega arith
+      new : (p : A) → 1 ≤ g p → g p ≤ n → Q p → ⊥
+      new p a b e = let h : g p ≡ suc n = u.here p e in omega arith
 
-      labelled : (p : A) → 1 ≤ f p → p ≢ s
-      labelled p a e = let h : f p ≡ 0 = ap f e ∙ z in omega arith
+      labelled : (p : A) → 1 ≤ f p → Q p → ⊥
+      labelled p a e = let h : f p ≡ 0 = z p e in omega arith
 
       to : (p : A) → 1 ≤ f p → (1 ≤ g p) × (g p ≤ n)
       to p a = let b = other p (labelled p a) in let c = up p in (omega arith, omega arith)
@@ -97,19 +103,21 @@ module _ {A : Type 0} (dec : (a b : A) → Dec (a ≡ b)) {O : A → Type 0} {R 
       same p a = other p (labelled p a)
 
       is_member : (p : A) → 1 ≤ g p → O p
-      is_member p a = elim (dec p s) [ yes h ↦ subst O (sym h) o | no h ↦ w.member p (let b = other p h in omega arith) ]
+      is_member p a = elim (dec p) [ yes h ↦ o p h | no h ↦ w.member p (let b = other p h in omega arith) ]
 
       top : (p : A) → g p ≤ suc n
-      top p = elim (dec p s) [ yes h ↦ (let e : g p ≡ suc n = ap g h ∙ u.here in omega arith) | no h ↦ (let b = other p h in let c = up p in omega arith) ]
+      top p = elim (dec p) [ yes h ↦ (let e : g p ≡ suc n = u.here p h in omega arith) | no h ↦ (let b = other p h in let c = up p in omega arith) ]
 
       old_shut : (p q : A) → 1 ≤ g p → g p ≤ n → O q → R p q → (1 ≤ g q) × (g q ≤ n)
       old_shut p q a b oq r = to q (w.shut p q (of p (a, b)) oq r)
 
-  -- a neighbour gets the label, and joins the points whose neighbours are to be looked at
-  pub flood_grow : {n : ℕ} {f g : A → ℕ} {s : A} {W : A → Type 0} (p q : A) → Flooding O R n s W f → f p ≡ suc n → R p q → O q → f q ≡ 0 → Put f g q (suc n) → Flooding O R n s (λ x. (x ≡ q) ⊎ W x) g
-  flood_grow {n} {f} {g} {s} {W} p q w fp rq oq z u = record {
-    member = λ x a. elim (dec x q) [ yes h ↦ subst O (sym h) oq | no h ↦ w.member x (let b = u.there x h in omega arith) ];
-    top = λ x. elim (dec x q) [ yes h ↦ (let e : g x ≡ suc n = ap g h ∙ u.here in omega arith) | no h ↦ (let b = u.there x h in let c = w.top x in omega arith) ];
+  -- the points of Q, which are connected with s then, get the label, and join the points whose neighbours are to be looked at
+  pub flood_grow : {n : ℕ} {f g : A → ℕ} {s : A} {W Q : A → Type 0} (dec : (x : A) → Dec (Q x)) → Flooding O R n s W f → ((x : A) → Q x → O x)
+      → ((x : A) → Q x → f x ≡ 0) → Put f g Q (suc n) → ((x : A) → Q x → Connected R (λ y. g y ≡ suc n) s x) → Flooding O R n s (λ x. Q x ⊎ W x) g
+  flood_grow {n} {f} {g} {s} {W} {Q} dec w o z u joined = record {
+    member = λ x a. elim (dec x) [ yes h ↦ o x h | no h ↦ w.member x (let b = u.there x h in omega arith) ];
+    top = λ x. elim (dec x)
+        [ yes h ↦ (let e : g x ≡ suc n = u.here x h in omega arith) | no h ↦ (let b = u.there x h in let c = w.top x in omega arith) ];
     old_shut = λ x y a b oy r. to y (let c = of x (a, b) in w.old_shut x y c.0 c.1 oy r);
     old = named_alike to of same w.old;
     seed = keeps s w.seed;
@@ -117,14 +125,14 @@ module _ {A : Type 0} (dec : (a b : A) → Dec (a ≡ b)) {O : A → Type 0} {R 
     edge = edge;
   }
     where
-      labelled : (x : A) → 1 ≤ f x → x ≢ q
-      labelled x a e = let h : f x ≡ 0 = ap f e ∙ z in omega arith
+      labelled : (x : A) → 1 ≤ f x → Q x → ⊥
+      labelled x a e = let h : f x ≡ 0 = z x e in omega arith
 
       keeps : (x : A) → f x ≡ suc n → g x ≡ suc n
       keeps x e = u.there x (labelled x (omega arith)) ∙ e
 
-      new : (x : A) → g x ≤ n → x ≢ q
-      new x b e = let h : g x ≡ suc n = ap g e ∙ u.here in omega arith
+      new : (x : A) → g x ≤ n → Q x → ⊥
+      new x b e = let h : g x ≡ suc n = u.here x e in omega arith
 
       to : (x : A) → (1 ≤ f x) × (f x ≤ n) → (1 ≤ g x) × (g x ≤ n)
       to x a = let b = u.there x (labelled x a.0) in let c = a.0 in let d = a.1 in (omega arith, omega arith)
@@ -136,25 +144,23 @@ module _ {A : Type 0} (dec : (a b : A) → Dec (a ≡ b)) {O : A → Type 0} {R 
       same x a = u.there x (labelled x a.0)
 
       grown : (x : A) → g x ≡ suc n → Connected R (λ y. g y ≡ suc n) s x
-      grown x e = elim (dec x q) [
-        | yes h ↦ subst (λ y. Connected R (λ y. g y ≡ suc n) s y) (sym h) (joined_to (in_greater keeps (w.grown p fp)) (Connected.onward (keeps p fp) rq (Connected.here u.here)))
-        | no h ↦ in_greater keeps (w.grown x (sym (u.there x h) ∙ e))
-      ]
+      grown x e = elim (dec x) [ yes h ↦ joined x h | no h ↦ in_greater keeps (w.grown x (sym (u.there x h) ∙ e)) ]
 
-      edge : (x y : A) → g x ≡ suc n → ((x ≡ q) ⊎ W x → ⊥) → O y → R x y → g y ≡ suc n
+      edge : (x y : A) → g x ≡ suc n → (Q x ⊎ W x → ⊥) → O y → R x y → g y ≡ suc n
       edge x y e h oy r = keeps y (w.edge x y (sym (u.there x (λ i. h (inl i))) ∙ e) (λ i. h (inr i)) oy r)
 
-  -- a point whose neighbours have the label is done with
-  pub flood_drop : {n : ℕ} {f : A → ℕ} {s : A} {W V : A → Type 0} (p : A) → Flooding O R n s W f → ((q : A) → O q → R p q → f q ≡ suc n) → ((x : A) → W x → (x ≡ p) ⊎ V x) → Flooding O R n s V f
-  flood_drop {n} {f} {s} {W} {V} p w all less = record {
+  -- points whose neighbours have the label are done with
+  pub flood_drop : {n : ℕ} {f : A → ℕ} {s : A} {W V Q : A → Type 0} (dec : (x : A) → Dec (Q x)) → Flooding O R n s W f
+      → ((p q : A) → Q p → O q → R p q → f q ≡ suc n) → ((x : A) → W x → Q x ⊎ V x) → Flooding O R n s V f
+  flood_drop {n} {f} {s} {W} {V} {Q} dec w all less = record {
     member = w.member;
     top = w.top;
     old_shut = w.old_shut;
     old = w.old;
     seed = w.seed;
     grown = w.grown;
-    edge = λ x y e h oy r. elim (dec x p) [
-      | yes i ↦ all y oy (subst (λ v. R v y) i r)
+    edge = λ x y e h oy r. elim (dec x) [
+      | yes i ↦ all x y i oy r
       | no i ↦ w.edge x y e (λ k. elim (less x k) [ inl a ↦ i a | inr b ↦ h b ]) oy r
     ];
   }
@@ -176,7 +182,8 @@ module _ {A : Type 0} (dec : (a b : A) → Dec (a ≡ b)) {O : A → Type 0} {R 
       ]
 
 -- more points may be looked at again
-pub flood_work : {A : Type 0} {O : A → Type 0} {R : A → A → Type 0} {n : ℕ} {f : A → ℕ} {s : A} {W V : A → Type 0} → Flooding O R n s W f → ((x : A) → W x → V x) → Flooding O R n s V f
+pub flood_work : {A : Type 0} {O : A → Type 0} {R : A → A → Type 0} {n : ℕ} {f : A → ℕ} {s : A} {W V : A → Type 0} → Flooding O R n s W f
+    → ((x : A) → W x → V x) → Flooding O R n s V f
 flood_work w less = record {
   member = w.member;
   top = w.top;

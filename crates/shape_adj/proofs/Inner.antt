@@ -26,7 +26,8 @@ pub itself_inside : (n p : Point) → length p ≡ length n → IsApart n p (len
 itself_inside n p e h = in_box_by n p e (λ j m. let b = h j m in (omega (arith, ints, b.0), omega (arith, ints, b.1)))
 
 -- and so are its near neighbours
-pub all_inside : (n p : Point) → length p ≡ length n → IsApart n p (length n) → (k : ℕ) → k < length (near_steps (length p)) → IsTrue (in_box (sides_of n) (near_point p k))
+pub all_inside : (n p : Point) → length p ≡ length n → IsApart n p (length n) → (k : ℕ) → k < length (near_steps (length p))
+    → IsTrue (in_box (sides_of n) (near_point p k))
 all_inside n p e h k l =
     let near = near_of_number p k l in
     in_box_by n (near_point p k) (length-moved p (near_step (length p) k) (length-near_step (length p) k l) ∙ e) (λ j m.

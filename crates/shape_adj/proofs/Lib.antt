@@ -1,6 +1,10 @@
 pub mod Flooding
-pub mod RestBits
+pub mod Relabelling
+pub mod RunLines
+pub mod RowPlaces
+pub mod PictureRows
 pub mod Links
+pub mod Entering
 mod OpenLinks
 mod ObjectRows
 pub mod Labelling
@@ -9,6 +13,5 @@ mod SolidSteps
 pub mod Offsets
 pub mod Inner
 mod GapSteps
-pub mod Neighbours
 pub mod MaskBits
 pub mod CubeRows

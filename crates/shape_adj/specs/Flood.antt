@@ -1,6 +1,6 @@
 -- What holds while the components of a set are labelled one after the other. The label 0 means that there is none yet.
 -- Said of any set and adjacency; how the labels are kept and where the search goes on belongs elsewhere.
-use Rattle.std.specs.Prelude.{◌≡◌, ◌≢◌, ℕ, suc, ◌≤◌}
+use Rattle.std.specs.Prelude.{◌≡◌, ℕ, suc, ◌≤◌}
 use Rattle.shape_terms.specs.Parts.{Connected, NamesParts}
 
 -- n whole components of O are labelled
@@ -19,7 +19,7 @@ pub record Flooding {A : Type 0} (O : A → Type 0) (R : A → A → Type 0) (n 
   pub grown : (p : A) → f p ≡ suc n → Connected R (λ q. f q ≡ suc n) s p
   pub edge : (p q : A) → f p ≡ suc n → (W p → ⊥) → O q → R p q → f q ≡ suc n
 
--- g is f with the value v at q
-pub record Put {A : Type 0} (f g : A → ℕ) (q : A) (v : ℕ) : Type 0 where
-  pub here : g q ≡ v
-  pub there : (x : A) → x ≢ q → g x ≡ f x
+-- g is f with the value v at the points of Q
+pub record Put {A : Type 0} (f g : A → ℕ) (Q : A → Type 0) (v : ℕ) : Type 0 where
+  pub here : (x : A) → Q x → g x ≡ v
+  pub there : (x : A) → (Q x → ⊥) → g x ≡ f x

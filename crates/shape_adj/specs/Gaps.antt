@@ -2,9 +2,6 @@
 -- The numbers wrap round at 2^32, since a neighbour may come before its point.
 use Rattle.std.specs.Prelude.{◌≡◌, ℕ, ◌+◌, ◌%◌, ◌^◌, ◌<◌, List, length, slice_index, IsTrue}
 use Rattle.shape_terms.specs.Points.{Point, in_box, box_count, raster_number, raster_point}
-use Rattle.shape_terms.specs.FramedBox.{framed_sides, framed_point}
-use Rattle.shape_terms.specs.Adjacency.{side_point}
-use Rattle.shape_terms.specs.Places.{in_frame, framed_number}
 
 -- neighbour k of each point comes so many places behind it, where it is in the box
 abbrev pub IsGap : List ℕ → (Point → ℕ → Point) → ℕ → ℕ → Type 0
@@ -14,12 +11,3 @@ IsGap sides neighbour k gap = (i : ℕ) → i < box_count sides → IsTrue (in_b
 -- the numbers are those of the first neighbours
 abbrev pub AreGaps : List ℕ → (Point → ℕ → Point) → List ℕ → Type 0
 AreGaps sides neighbour gaps = (k : ℕ) → k < length gaps → IsGap sides neighbour k (slice_index gaps k)
-
--- side neighbour k of each point of the framed box comes so many places behind it there, where it is in the framed box
-abbrev pub IsFramedGap : List ℕ → ℕ → ℕ → Type 0
-IsFramedGap sides k gap = (i : ℕ) → i < box_count (framed_sides sides) → IsTrue (in_frame sides (side_point (framed_point sides i) k))
-    → framed_number sides (side_point (framed_point sides i) k) ≡ (i + gap) % 2 ^ 32
-
--- the numbers are those of the first side neighbours
-abbrev pub AreFramedGaps : List ℕ → List ℕ → Type 0
-AreFramedGaps sides gaps = (k : ℕ) → k < length gaps → IsFramedGap sides k (slice_index gaps k)

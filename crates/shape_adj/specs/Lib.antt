@@ -1,5 +1,7 @@
 pub mod Flood
 pub mod Labels
+pub mod RowNets
+pub mod Beside
 pub mod Offsets
 pub mod Gaps
 pub mod NearMasks

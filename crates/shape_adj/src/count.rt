@@ -4,7 +4,8 @@ ghost use Rattle.std.specs.Prelude.{⊤, IfOk};
 ghost use Rattle.shape_terms.specs.Parts.{HasParts};
 
 use crate::flood::{Components, flood};
-use crate::net::Net;
+use crate::rows::RowNet;
+use crate::run::Run;
 use crate::store::LabelStore;
 use shape_space::NoMemory;
 use std::alloc::Global;
@@ -20,11 +21,11 @@ impl LabelStore for NoLabels {
         Ok(NoLabels)
     }
 
-    fn put(&mut self, place: u32, label: u32) {}
+    fn put(&mut self, run: Run, label: u32) {}
 }
 
 /// How many components a net has.
-pub fn component_count<N: Net>(alloc: Global, net: &N) -> Result<u32, NoMemory>
+pub fn component_count<N: RowNet>(alloc: Global, net: &N) -> Result<u32, NoMemory>
     ensures { IfOk result (λ n. HasParts (N.Adjacent net.now) (N.Holds net.now) n) }
 {
     let components: Components<NoLabels> = flood(alloc, net)?;

@@ -7,12 +7,12 @@ mod count;
 mod flood;
 mod framed;
 mod near;
-mod net;
 mod number;
 mod pairing;
 mod picture;
 mod places;
-mod side;
+mod rows;
+mod run;
 mod solid;
 mod store;
 

@@ -7,10 +7,8 @@ ghost use Rattle.shape_terms.specs.Parts.{Counts, LabelsObject};
 use crate::answers::{Labels, Parts};
 use crate::count::component_count;
 use crate::flood::label_components;
-use crate::near::NearNumbers;
 use crate::pairing::Pairing;
 use crate::places::{Background, Object};
-use crate::side::SideNumbers;
 use shape_grid::Grid;
 use shape_space::NoMemory;
 use std::alloc::Global;
@@ -22,10 +20,10 @@ pub fn parts<P: Pairing>(alloc: Global, grid: &Grid<P>) -> Result<Parts, NoMemor
     ensures { IfOk result (λ p. Counts grid.now
         (length (object_points grid.now)) p.object p.background) }
 {
-    let near = NearNumbers::new(alloc, grid.sides())?;
-    let object = component_count(alloc, &Object { grid, near })?;
-    let side = SideNumbers::new(alloc, grid.sides())?;
-    let background = component_count(alloc, &Background { grid, side })?;
+    let inside = Object::of(grid);
+    let object = component_count(alloc, &inside)?;
+    let outside = Background::of(grid);
+    let background = component_count(alloc, &outside)?;
     Ok(Parts { object, background })
 }
 
@@ -35,7 +33,7 @@ pub fn parts<P: Pairing>(alloc: Global, grid: &Grid<P>) -> Result<Parts, NoMemor
 pub fn labels<P: Pairing>(alloc: Global, grid: &Grid<P>) -> Result<Labels, NoMemory>
     ensures { IfOk result (LabelsObject grid.now) }
 {
-    let near = NearNumbers::new(alloc, grid.sides())?;
-    let components = label_components(alloc, &Object { grid, near })?;
+    let inside = Object::of(grid);
+    let components = label_components(alloc, &inside)?;
     Ok(Labels::of(components.labels))
 }

@@ -1,7 +1,9 @@
 //! Where a flood puts the labels of places.
 //! What a label means stands in the flood; one more way to keep labels is one more `impl`.
-ghost use Rattle.std.specs.Prelude.{◌≡◌, ◌<◌, ℕ, List, length, replicate, slice_set, IfOk};
+ghost use Rattle.std.specs.Prelude.{◌≡◌, ◌<◌, ◌≤◌, ℕ, List, length, replicate, IfOk};
+ghost use Rattle.shape_adj.specs.Labels.{relabelled};
 
+use crate::run::Run;
 use shape_space::NoMemory;
 use std::alloc::Global;
 
@@ -14,11 +16,12 @@ pub trait LabelStore: Drop {
     fn blank(alloc: Global, places: u32) -> Result<Self, NoMemory>
         ensures { IfOk result (λ s. Tells s (replicate places 0)) };
 
-    /// Gives a place its label.
-    fn put(&mut self, place: u32, label: u32)
-        requires { (list : List ℕ) × Tells self.old list × (place < length list) }
+    /// Gives the places of a run their label.
+    fn put(&mut self, run: Run, label: u32)
+        requires ordered { run.from ≤ run.until }
+        requires told { (list : List ℕ) × Tells self.old list × (run.until ≤ length list) }
         ensures { (list : List ℕ) → Tells self.old list
-            → Tells self.new (slice_set list place label) };
+            → Tells self.new (relabelled list run.from run.until label) };
 }
 
 impl LabelStore for Vec<u32> {
@@ -29,7 +32,9 @@ impl LabelStore for Vec<u32> {
         Ok(labels)
     }
 
-    fn put(&mut self, place: u32, label: u32) {
-        self[place as usize] = label;
+    fn put(&mut self, run: Run, label: u32) {
+        for i in run.from..run.until {
+            self[i as usize] = label;
+        }
     }
 }

@@ -1,6 +1,7 @@
 -- A report grows by the good lines of faces.
 -- One law for each kind of line that is added.
-use Rattle.std.proofs.Common.{◌≡◌, ◌⊎◌, inl, inr, ◌+◌, ◌-◌, ◌<◌, ◌≤◌, ℕ, zero, suc, ℤ, List, [], ◌∷◌, ◌++◌, length, take, drop, refl, sym, ap, ◌∙◌, subst, arith, Some}
+use Rattle.std.proofs.Common.{◌≡◌, ◌⊎◌, inl, inr, ◌+◌, ◌-◌, ◌<◌, ◌≤◌, ℕ, zero, suc, ℤ, List, [], ◌∷◌, ◌++◌, length, take, drop, refl, sym, ap, ◌∙◌, subst}
+use Rattle.std.proofs.Common.{arith, Some}
 use Rattle.std.specs.Prelude.{IsTrue, ◌↔◌, ◌≢◌, AllPairs, Contains, slice_get}
 use Rattle.std.proofs.lemmas.List.{drop_all, append-nil, append_assoc, length-append, length-map, take_all, length-take-le, take-append-drop}
 use Rattle.std.proofs.lemmas.List.Elements.{All-contains, Contains-append_right}
@@ -18,7 +19,8 @@ use Rattle.shape_terms.proofs.PointLists.{across, no_more}
 use Rattle.shape_terms.proofs.Places.{place_of, of_place, place_drop, place_take, of_front, place_map}
 use Rattle.report_terms.specs.Lines.{Line, IsLineOf}
 use Rattle.report_terms.specs.FaceFacts.{face_axis, face_sense}
-use Rattle.report_terms.specs.FaceLines.{FaceStanding, face_standing, given_patch, open_exposed, IsTouching, FacesAreFull, IsNextTouching, IsNextOn, IsFaceHead, IsPatchHead, IsOnLine, IsOffLine, SurfaceClaim}
+use Rattle.report_terms.specs.FaceLines.{FaceStanding, face_standing, given_patch, open_exposed, IsTouching, FacesAreFull, IsNextTouching, IsNextOn, IsFaceHead}
+use Rattle.report_terms.specs.FaceLines.{IsPatchHead, IsOnLine, IsOffLine, SurfaceClaim}
 use Rattle.report_terms.specs.Sections.{Section, section_of, lines_of}
 use Rattle.report_terms.proofs.SectionLaws.{none_past, come_more, come_past, good_at, lines_push}
 use Rattle.text_terms.proofs.ListPushes.{take_next}
@@ -37,7 +39,8 @@ use Rattle.shape_analyse.proofs.Growth.{good_more}
 -- ---- how many points are exposed
 
 -- a partition has as many points as the face has exposed ones
-pub as_many : (d : ℕ) (X : Picture) (t : ℕ) (sense : Sense) (patches : List Patch) → IsPartition d X t sense patches → length (points_of patches) ≡ length (exposed_points X t sense)
+pub as_many : (d : ℕ) (X : Picture) (t : ℕ) (sense : Sense) (patches : List Patch) → IsPartition d X t sense patches
+    → length (points_of patches) ≡ length (exposed_points X t sense)
 as_many d X t sense patches p =
     let a = no_more (points_of patches) (exposed_points X t sense) p.once (λ q c. (p.all q).1 c) in
     let b = no_more (exposed_points X t sense) (points_of patches) (exposed_distinct X t sense) (λ q c. (p.all q).0 c) in
@@ -48,8 +51,10 @@ as_many d X t sense patches p =
 pub found_none : (X : Aim) (f : ℕ) (face : Picture) → f < 6 → IsFace X.subject.picture (face_axis f) (face_sense f) face → AreFound X f [] face
 found_none X f face few is = record { few = few; face = face; is_face = is; parted = parted_none 3 (face_axis f) face }
 
-pub found_more : (X : Aim) (f : ℕ) (found : List FoundPatch) (left left' : Picture) (x : FoundPatch) → AreFound X f found left → IsNextPatch 3 (face_axis f) left left' x → AreFound X f (found ++ x ∷ []) left'
-found_more X f found left left' x are next = record { few = are.few; face = are.face; is_face = are.is_face; parted = parted_more 3 (face_axis f) are.face found left left' x are.parted next }
+pub found_more : (X : Aim) (f : ℕ) (found : List FoundPatch) (left left' : Picture) (x : FoundPatch) → AreFound X f found left
+    → IsNextPatch 3 (face_axis f) left left' x → AreFound X f (found ++ x ∷ []) left'
+found_more X f found left left' x are next =
+    record { few = are.few; face = are.face; is_face = are.is_face; parted = parted_more 3 (face_axis f) are.face found left left' x are.parted next }
 
 last_of : {A : Type 0} (xs : List A) (x : A) → slice_get (xs ++ x ∷ []) (length xs) ≡ Some x
 last_of [] x = refl
@@ -65,7 +70,8 @@ behind_last xs x = drop_all (suc (length xs)) (xs ++ x ∷ []) (omega (arith, le
 -- ---- one more line of a face
 
 -- no face was begun yet
-pub faces_none : (X : Aim) (lines : List Line) → length X.subject.picture.sides ≡ 3 → IsGrowing X (length (object_points X.subject.picture)) lines → HasFaces X 0 lines
+pub faces_none : (X : Aim) (lines : List Line) → length X.subject.picture.sides ≡ 3 → IsGrowing X (length (object_points X.subject.picture)) lines
+    → HasFaces X 0 lines
 faces_none X lines solid h =
     let outlines = come_past X.subject Section.Nearest Section.Contours lines refl h.come h.nears in
     let come = come_past X.subject Section.Contours Section.Faces lines refl outlines (record {
@@ -74,12 +80,19 @@ faces_none X lines solid h =
     }) in
     record {
       stand = face_standing [];
-      facing = record { solid = solid; lines_good = h.lines_good; come = come; stands = ap face_standing (none_past Section.Nearest Section.Faces lines (omega arith) h.come.order) };
+      facing = record {
+        solid = solid;
+        lines_good = h.lines_good;
+        come = come;
+        stands =
+            ap face_standing (none_past Section.Nearest Section.Faces lines (omega arith) h.come.order);
+      };
       begun = refl;
       full = λ l. absurd (omega (arith, l));
     }
 
-facing_more : (X : Aim) (s s2 : FaceStanding) (lines : List Line) (l : Line) → IsFacing X s lines → section_of l ≡ Section.Faces → SurfaceClaim X.subject.picture s l → IsLineOf 3 l → face_standing (lines_of Section.Faces lines ++ l ∷ []) ≡ s2 → IsFacing X s2 (lines ++ l ∷ [])
+facing_more : (X : Aim) (s s2 : FaceStanding) (lines : List Line) (l : Line) → IsFacing X s lines → section_of l ≡ Section.Faces
+    → SurfaceClaim X.subject.picture s l → IsLineOf 3 l → face_standing (lines_of Section.Faces lines ++ l ∷ []) ≡ s2 → IsFacing X s2 (lines ++ l ∷ [])
 facing_more X s s2 lines l o k claim fields next =
     let good = good_at X.subject Section.Faces lines l o.come k (o.solid, subst (λ w. SurfaceClaim X.subject.picture w l) (sym o.stands) claim) in
     record {
@@ -90,14 +103,18 @@ facing_more X s s2 lines l o k claim fields next =
     }
 
 -- the next face is begun
-pub face_begun : (X : Aim) (f : ℕ) (lines : List Line) (n : ℕ) → HasFaces X f lines → f < 6 → n ≡ length (exposed_points X.subject.picture (face_axis f) (face_sense f)) → IsLineOf 3 (Line.Face (face_axis f) (face_sense f) n)
+pub face_begun : (X : Aim) (f : ℕ) (lines : List Line) (n : ℕ) → HasFaces X f lines → f < 6
+    → n ≡ length (exposed_points X.subject.picture (face_axis f) (face_sense f)) → IsLineOf 3 (Line.Face (face_axis f) (face_sense f) n)
     → HasPatches X f [] (lines ++ Line.Face (face_axis f) (face_sense f) n ∷ [])
 face_begun X f lines n h few count fields =
     let l = Line.Face (face_axis f) (face_sense f) n in
     let s : FaceStanding = record { begun = f + 1; taken = []; patch = given_patch [] } in
-    let claim : IsFaceHead X.subject.picture h.stand (face_axis f) (face_sense f) n = record { full = h.full; more = omega (arith, h.begun, few); axis = ap face_axis (sym h.begun); sense_is = ap face_sense (sym h.begun); points = count } in
+    let claim : IsFaceHead X.subject.picture h.stand (face_axis f) (face_sense f) n =
+    record { full = h.full; more = omega (arith, h.begun, few); axis = ap face_axis (sym h.begun); sense_is = ap face_sense (sym h.begun); points = count }
+    in
     let begun = ap (λ (w : FaceStanding). w.begun) h.facing.stands ∙ h.begun in
-    let next = standing_face (lines_of Section.Faces lines) (face_axis f) (face_sense f) n ∙ ap (λ b. record { begun = b + 1; taken = []; patch = given_patch [] }) begun in
+    let next = standing_face (lines_of Section.Faces lines) (face_axis f) (face_sense f) n
+    ∙ ap (λ b. record { begun = b + 1; taken = []; patch = given_patch [] }) begun in
     record {
       stand = s;
       facing = facing_more X h.stand s lines l h.facing refl claim fields next;
@@ -161,7 +178,8 @@ module _ (X : Aim) (f : ℕ) (found : List FoundPatch) (left : Picture) (x : Fou
 
   -- ---- its head
 
-  pub patch_begun : (lines : List Line) (a : List ℤ) (mu : ℤ) → HasPatches X f found lines → record { a = a; mu = mu } ≡ x.patch.plane → IsLineOf 3 (Line.Patch (length points) a mu) → IsFacing X (at_patch f before x 0 0) (lines ++ Line.Patch (length points) a mu ∷ [])
+  pub patch_begun : (lines : List Line) (a : List ℤ) (mu : ℤ) → HasPatches X f found lines → record { a = a; mu = mu } ≡ x.patch.plane
+      → IsLineOf 3 (Line.Patch (length points) a mu) → IsFacing X (at_patch f before x 0 0) (lines ++ Line.Patch (length points) a mu ∷ [])
   patch_begun lines a mu h plane fields =
       let s = h.stand in
       let l = Line.Patch (length points) a mu in
@@ -172,7 +190,8 @@ module _ (X : Aim) (f : ℕ) (found : List FoundPatch) (left : Picture) (x : Fou
         full = h.full;
         some = omega (arith, patch_some);
         left = omega (arith, total, length-append before points, ap length h.taken, ap length (open_is X.subject.picture f s h.begun));
-        proper = subst (λ t. IsProper t (record { a = a; mu = mu })) (ap face_axis (let g : f ≡ s.begun - 1 = omega (arith, h.begun) in g)) (subst (IsProper (face_axis f)) (sym plane) part.plane.proper);
+        proper = subst (λ t. IsProper t (record { a = a; mu = mu })) (ap face_axis (let g : f ≡ s.begun - 1 = omega (arith, h.begun) in g))
+            (subst (IsProper (face_axis f)) (sym plane) part.plane.proper);
       } in
       let begun = ap (λ (w : FaceStanding). w.begun) h.facing.stands ∙ h.begun in
       let taken : (face_standing ls).taken ≡ before ++ [] = ap (λ (w : FaceStanding). w.taken) h.facing.stands ∙ (h.taken ∙ sym (append-nil before)) in
@@ -183,7 +202,8 @@ module _ (X : Aim) (f : ℕ) (found : List FoundPatch) (left : Picture) (x : Fou
   -- ---- its points
 
   touching : (j : ℕ) (p : Point) → slice_get points j ≡ Some p → 0 < j → IsTouching exposed (before ++ take j points) (take j points) p
-  touching j p e some = record { there = is_exposed p (Contains-append_right before points p (of_place points j p e)); left = λ c. apart c; near = near_one j e some }
+  touching j p e some =
+      record { there = is_exposed p (Contains-append_right before points p (of_place points j p e)); left = λ c. apart c; near = near_one j e some }
     where
       parts : before ++ points ≡ (before ++ take j points) ++ drop j points
       parts = ap (λ l. before ++ l) (sym (take-append-drop j points)) ∙ sym (append_assoc before (take j points) (drop j points))
@@ -198,7 +218,8 @@ module _ (X : Aim) (f : ℕ) (found : List FoundPatch) (left : Picture) (x : Fou
       near_one zero e l = absurd (omega (arith, l))
       near_one (suc i) e l = part.grows i p e
 
-  next_on : (pts : List Point) (j : ℕ) (p : Point) → slice_get pts j ≡ Some p → (j ≡ 0 → IsFirstLeft exposed (before ++ []) p) → (0 < j → IsTouching exposed (before ++ take j pts) (take j pts) p) → IsNextOn exposed (before ++ take j pts) (take j pts) p
+  next_on : (pts : List Point) (j : ℕ) (p : Point) → slice_get pts j ≡ Some p → (j ≡ 0 → IsFirstLeft exposed (before ++ []) p)
+      → (0 < j → IsTouching exposed (before ++ take j pts) (take j pts) p) → IsNextOn exposed (before ++ take j pts) (take j pts) p
   next_on [] j p e a b = cc
   next_on (q ∷ pts) zero p e a b = a refl
   next_on (q ∷ pts) (suc j) p e a b = b (omega arith)
@@ -209,7 +230,8 @@ module _ (X : Aim) (f : ℕ) (found : List FoundPatch) (left : Picture) (x : Fou
       let q : part.start ≡ p = cc in
       subst (λ l. IsFirstLeft exposed l p) (sym (append-nil before)) (subst (IsFirstLeft exposed before) q is_first)
 
-  pub patch_point : (lines : List Line) (j : ℕ) (p : Point) → IsFacing X (at_patch f before x j 0) lines → slice_get points j ≡ Some p → IsLineOf 3 (Line.On p) → IsFacing X (at_patch f before x (j + 1) 0) (lines ++ Line.On p ∷ [])
+  pub patch_point : (lines : List Line) (j : ℕ) (p : Point) → IsFacing X (at_patch f before x j 0) lines → slice_get points j ≡ Some p → IsLineOf 3 (Line.On p)
+      → IsFacing X (at_patch f before x (j + 1) 0) (lines ++ Line.On p ∷ [])
   patch_point lines j p o e fields =
       let s = at_patch f before x j 0 in
       let l = Line.On p in
@@ -219,14 +241,22 @@ module _ (X : Aim) (f : ℕ) (found : List FoundPatch) (left : Picture) (x : Fou
       let claim : IsOnLine X.subject.picture s p = record {
         more = omega (arith, within, length-take-le j points (omega (arith, within)));
         next = subst (λ es. IsNextOn es (before ++ take j points) (take j points) p) (sym is) (next_on points j p e (first_left j p e) (touching j p e));
-        held = subst (λ t. HoldsPoint t x.patch.plane p) (ap face_axis (let g : f ≡ f + 1 - 1 = omega arith in g)) (All-contains (HoldsPoint (face_axis f) x.patch.plane) points p part.plane.holds (of_place points j p e));
+        held = subst (λ t. HoldsPoint t x.patch.plane p) (ap face_axis (let g : f ≡ f + 1 - 1 = omega arith in g))
+            (All-contains (HoldsPoint (face_axis f) x.patch.plane) points p part.plane.holds (of_place points j p e));
       } in
       let some : 0 < (face_standing ls).patch.declared = omega (arith, within, ap (λ (w : FaceStanding). w.patch.declared) o.stands) in
       let more : take j points ++ p ∷ [] ≡ take (j + 1) points = take_next points j p e ∙ ap (λ n. take n points) (let q : suc j ≡ j + 1 = omega arith in q) in
-      let taken : (before ++ take j points) ++ p ∷ [] ≡ before ++ take (j + 1) points = append_assoc before (take j points) (p ∷ []) ∙ ap (λ l. before ++ l) more in
-      let next = standing_on ls p some ∙ ap (λ (w : FaceStanding). record { begun = w.begun; taken = w.taken ++ p ∷ []; patch = record w.patch { points = w.patch.points ++ p ∷ [] } }) o.stands in
+      let taken : (before ++ take j points) ++ p ∷ [] ≡ before ++ take (j + 1) points = append_assoc before (take j points) (p ∷ [])
+      ∙ ap (λ l. before ++ l) more in
+      let next = standing_on ls p some
+      ∙ ap (λ (w : FaceStanding). record { begun = w.begun; taken = w.taken ++ p ∷ []; patch = record w.patch { points = w.patch.points ++ p ∷ [] } })
+      o.stands in
       facing_more X s (at_patch f before x (j + 1) 0) lines l o refl claim fields
-      (next ∙ (λ i. record { begun = f + 1; taken = taken i; patch = record { declared = length points; plane = x.patch.plane; points = more i; refused = [] } }))
+      (next ∙ (λ i. record {
+        begun = f + 1;
+        taken = taken i;
+        patch = record { declared = length points; plane = x.patch.plane; points = more i; refused = [] };
+      }))
 
   -- ---- what it refused
 
@@ -278,7 +308,8 @@ module _ (X : Aim) (f : ℕ) (found : List FoundPatch) (left : Picture) (x : Fou
               let w : q ≡ p = cc in
               before_itself q p w b
 
-  pub patch_refused : (lines : List Line) (m : ℕ) (r : RefusedPoint) → IsFacing X (at_patch f before x (length points) m) lines → slice_get x.refused m ≡ Some r → 0 < length points → IsLineOf 3 (Line.Off r.point r.why)
+  pub patch_refused : (lines : List Line) (m : ℕ) (r : RefusedPoint) → IsFacing X (at_patch f before x (length points) m) lines → slice_get x.refused m ≡ Some r
+      → 0 < length points → IsLineOf 3 (Line.Off r.point r.why)
       → IsFacing X (at_patch f before x (length points) (m + 1)) (lines ++ Line.Off r.point r.why ∷ [])
   patch_refused lines m r o e filled fields =
       let n = length points in
@@ -290,14 +321,23 @@ module _ (X : Aim) (f : ℕ) (found : List FoundPatch) (left : Picture) (x : Fou
       let axis : face_axis f ≡ face_axis (f + 1 - 1) = ap face_axis (let g : f ≡ f + 1 - 1 = omega arith in g) in
       let claim : IsOffLine X.subject.picture s r.point r.why = record {
         points = ap length whole;
-        next = subst (λ es. IsNextTouching es (before ++ take n points) (take n points) (take m refs) r.point) (sym is) (subst (λ l. IsNextTouching exposed (before ++ l) l (take m refs) r.point) (sym whole) (next_refused m r.point at_place));
-        refuted = subst (λ t. Refutes 3 t (take n points ++ r.point ∷ []) r.why) axis (subst (λ l. Refutes 3 (face_axis f) (l ++ r.point ∷ []) r.why) (sym whole) (are_refused.weights m r e));
+        next = subst (λ es. IsNextTouching es (before ++ take n points) (take n points) (take m refs) r.point) (sym is)
+            (subst (λ l. IsNextTouching exposed (before ++ l) l (take m refs) r.point) (sym whole) (next_refused m r.point at_place));
+        refuted = subst (λ t. Refutes 3 t (take n points ++ r.point ∷ []) r.why) axis
+            (subst (λ l. Refutes 3 (face_axis f) (l ++ r.point ∷ []) r.why) (sym whole) (are_refused.weights m r e));
       } in
       let some : 0 < (face_standing ls).patch.declared = omega (arith, filled, ap (λ (w : FaceStanding). w.patch.declared) o.stands) in
-      let more : take m refs ++ r.point ∷ [] ≡ take (m + 1) refs = take_next refs m r.point at_place ∙ ap (λ n. take n refs) (let q : suc m ≡ m + 1 = omega arith in q) in
-      let next = standing_off ls r.point r.why some ∙ ap (λ (w : FaceStanding). record w { patch = record w.patch { refused = w.patch.refused ++ r.point ∷ [] } }) o.stands in
+      let more : take m refs ++ r.point ∷ [] ≡ take (m + 1) refs = take_next refs m r.point at_place
+      ∙ ap (λ n. take n refs) (let q : suc m ≡ m + 1 = omega arith in q) in
+      let next = standing_off ls r.point r.why some
+      ∙ ap (λ (w : FaceStanding). record w { patch = record w.patch { refused = w.patch.refused ++ r.point ∷ [] } }) o.stands in
       facing_more X s (at_patch f before x n (m + 1)) lines l o refl claim fields
-      (next ∙ (λ i. record { begun = f + 1; taken = before ++ take n points; patch = record { declared = n; plane = x.patch.plane; points = take n points; refused = more i } }))
+      (next ∙ (λ i. record {
+        begun = f + 1;
+        taken = before ++ take n points;
+        patch =
+            record { declared = n; plane = x.patch.plane; points = take n points; refused = more i };
+      }))
 
   -- it has all its lines
   pub patch_done : (lines : List Line) → IsFacing X (at_patch f before x (length points) (length x.refused)) lines → HasPatches X f (found ++ x ∷ []) lines
@@ -314,13 +354,16 @@ module _ (X : Aim) (f : ℕ) (found : List FoundPatch) (left : Picture) (x : Fou
         taken = ap (λ l. before ++ l) whole ∙ sym all_points;
         full = record {
           points = ap length whole;
-          refused = λ q t. subst (λ l. Contains l q) (sym all) (refused_touching q (subst (λ l. IsTouching exposed (before ++ l) l q) whole (subst (λ es. IsTouching es (before ++ take n points) (take n points) q) is t)));
+          refused = λ q t. subst (λ l. Contains l q) (sym all)
+              (refused_touching q (subst (λ l. IsTouching exposed (before ++ l) l q) whole
+              (subst (λ es. IsTouching es (before ++ take n points) (take n points) q) is t)));
         };
       }
 
 -- ---- the section is complete
 
-pub face_done : (X : Aim) (f : ℕ) (found : List FoundPatch) (left : Picture) (lines : List Line) → AreFound X f found left → IsEmpty left → HasPatches X f found lines → HasFaces X (f + 1) lines
+pub face_done : (X : Aim) (f : ℕ) (found : List FoundPatch) (left : Picture) (lines : List Line) → AreFound X f found left → IsEmpty left
+    → HasPatches X f found lines → HasFaces X (f + 1) lines
 face_done X f found left lines are none h =
     let parts = parted_all 3 (face_axis f) X.subject.picture (face_sense f) are.face found left are.is_face are.parted none in
     let total = as_many 3 X.subject.picture (face_axis f) (face_sense f) (patches_of found) parts.partition in

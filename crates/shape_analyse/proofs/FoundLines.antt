@@ -15,8 +15,8 @@ use Rattle.shape_terms.specs.Covers.{Evidence, IsEvidence, gap_run}
 use Rattle.text_terms.specs.Forms.{counted}
 use Rattle.text_terms.specs.Weights.{IsStepIn, share, step_share, why}
 use Rattle.report_terms.specs.Lines.{Line, IsLineOf}
-use Rattle.shape_slope.specs.Pairs.{AreSmallWeights}
-use Rattle.shape_cover.specs.Found.{Found, stretches_of, found_at, IsShownBy, IsCoverOf, IsShortLine, AreShortShares, IsShortEvidence}
+use Rattle.shape_plane.specs.Pairs.{AreSmallWeights}
+use Rattle.shape_line.specs.Found.{Found, stretches_of, found_at, IsShownBy, IsCoverOf, IsShortLine, AreShortShares, IsShortEvidence}
 use Rattle.shape_analyse.specs.Growing.{Aim, IsOutlined, at_contour, covered}
 use Rattle.shape_analyse.proofs.ContourGrowth.{outlined_segment, outlined_least, outlined_gap}
 
@@ -43,12 +43,19 @@ shares_fit shares h = (h.few, λ i d l. (h.weights i d l, h.places i d l))
 pub gap_fits : (t : ℕ) (run : List Point) (v : Evidence) → t < 2 → IsEvidence t run v → IsShortEvidence v → IsLineOf 2 (Line.Gap t v)
 gap_fits t run (Evidence.Turned i j) ht h s = (refl, (ht, (s.0, s.1)))
 gap_fits t run (Evidence.Cut why) ht h s =
-    let steps : (counted 4 (step_share 2)).InRange why.steps = (s.few_steps, λ i d l. (s.steps i d l, step_in 2 t (slice_index_or why.steps i d) (h.1.steps_of_axis i d l))) in
+    let steps : (counted 4 (step_share 2)).InRange why.steps =
+    (s.few_steps, λ i d l. (s.steps i d l, step_in 2 t (slice_index_or why.steps i d) (h.1.steps_of_axis i d l))) in
     (refl, (ht, (shares_fit why.low s.low, (shares_fit why.high s.high, steps))))
 
 -- small weights that refute points of which there are few
 pub weights_fit : (d t : ℕ) (run : List Point) (r : Refutation) → length run ≤ 2 ^ 32 → Refutes d t run r → AreSmallWeights r → (why d).InRange r
-weights_fit d t run r few h small = (shares r.low small.few_low small.low h.low_places, (shares r.high small.few_high small.high h.high_places, (small.few_steps, λ i e l. (below i e l, step_in d t (slice_index_or r.steps i e) (h.steps_of_axis i e l)))))
+weights_fit d t run r few h small = (
+  shares r.low small.few_low small.low h.low_places,
+  (
+    shares r.high small.few_high small.high h.high_places,
+    (small.few_steps, λ i e l. (below i e l, step_in d t (slice_index_or r.steps i e) (h.steps_of_axis i e l))),
+  ),
+)
   where
     shares : (ss : List Share) → length ss ≤ 4 → All (λ s. s.weight < plane_weight) ss → All (λ s. s.place < length run) ss → (counted 4 share).InRange ss
     shares ss n a b = (n, λ i e l. let w = a i e l in let p = b i e l in (omega (arith, w), omega (arith, p, few)))
@@ -57,7 +64,8 @@ weights_fit d t run r few h small = (shares r.low small.few_low small.low h.low_
     below i e l = let w = small.steps i e l in omega (arith, w)
 
 -- the stretches up to one more
-pub stretches_more : (found : List Found) (j : ℕ) → j < length found → take j (stretches_of found) ++ (found_at found j).stretch ∷ [] ≡ take (j + 1) (stretches_of found)
+pub stretches_more : (found : List Found) (j : ℕ) → j < length found
+    → take j (stretches_of found) ++ (found_at found j).stretch ∷ [] ≡ take (j + 1) (stretches_of found)
 stretches_more found j l = more found j l ∙ ap (λ k. take k (stretches_of found)) (let e : suc j ≡ j + 1 = omega arith in e)
   where
     more : (found : List Found) (j : ℕ) → j < length found → take j (stretches_of found) ++ (found_at found j).stretch ∷ [] ≡ take (suc j) (stretches_of found)
@@ -75,26 +83,38 @@ abbrev pub segment_line : Segment → Line
 segment_line s = Line.Seg s.stretch.first s.stretch.last s.axis s.line.a s.line.mu
 
 -- the line of the next segment
-pub found_segment : (X : Aim) (contours : List Contour) (k : ℕ) (c : Contour) (found : List Found) (j : ℕ) (lines : List Line) → IsOutlined X contours (at_contour k (length c.points) (length found) (take j (stretches_of found)) 0) lines → slice_get contours k ≡ Some c → IsCoverOf c.points found → j < length found
+pub found_segment : (X : Aim) (contours : List Contour) (k : ℕ) (c : Contour) (found : List Found) (j : ℕ) (lines : List Line)
+    → IsOutlined X contours (at_contour k (length c.points) (length found) (take j (stretches_of found)) 0) lines → slice_get contours k ≡ Some c
+    → IsCoverOf c.points found → j < length found
     → IsLineOf 2 (segment_line (segment_at found j))
-    → IsOutlined X contours (record (at_contour k (length c.points) (length found) (take (j + 1) (stretches_of found)) 0) { last = Some (segment_at found j) }) (lines ++ segment_line (segment_at found j) ∷ [])
+    → IsOutlined X contours (record (at_contour k (length c.points) (length found) (take (j + 1) (stretches_of found)) 0) { last = Some (segment_at found j) })
+    (lines ++ segment_line (segment_at found j) ∷ [])
 found_segment X contours k c found j lines o there cover l fields =
     let f = found_at found j in
     let before = take j (stretches_of found) in
-    let more : length before < length found = omega (arith, length-take-le j (stretches_of found) (omega (arith, length-map found (λ (f : Found). f.stretch))), l) in
-    let next = outlined_segment X contours k (length found) before lines c f.stretch.first f.stretch.last f.axis f.line o there more (cover.segment j l) fields in
-    subst (λ ss. IsOutlined X contours (record (at_contour k (length c.points) (length found) ss 0) { last = Some (segment_at found j) }) (lines ++ segment_line (segment_at found j) ∷ [])) (stretches_more found j l) next
+    let more : length before < length found =
+    omega (arith, length-take-le j (stretches_of found) (omega (arith, length-map found (λ (f : Found). f.stretch))), l) in
+    let next = outlined_segment X contours k (length found) before lines c f.stretch.first f.stretch.last f.axis f.line o there more (cover.segment j l) fields
+    in
+    subst (λ ss. IsOutlined X contours (record (at_contour k (length c.points) (length found) ss 0) { last = Some (segment_at found j) })
+    (lines ++ segment_line (segment_at found j) ∷ [])) (stretches_more found j l) next
 
 -- the `least` line behind it
-pub found_least : (X : Aim) (contours : List Contour) (k : ℕ) (c : Contour) (found : List Found) (j : ℕ) (pairs : Pairs) (lines : List Line) → IsOutlined X contours (record (at_contour k (length c.points) (length found) (take (j + 1) (stretches_of found)) 0) { last = Some (segment_at found j) }) lines → slice_get contours k ≡ Some c
-    → IsCoverOf c.points found → j < length found → IsShownBy (found_at found j) pairs → IsLineOf 2 (Line.Least pairs) → IsOutlined X contours (at_contour k (length c.points) (length found) (take (j + 1) (stretches_of found)) 0) (lines ++ Line.Least pairs ∷ [])
+pub found_least : (X : Aim) (contours : List Contour) (k : ℕ) (c : Contour) (found : List Found) (j : ℕ) (pairs : Pairs) (lines : List Line)
+    → IsOutlined X contours (record (at_contour k (length c.points) (length found) (take (j + 1) (stretches_of found)) 0) { last = Some (segment_at found j) })
+    lines → slice_get contours k ≡ Some c
+    → IsCoverOf c.points found → j < length found → IsShownBy (found_at found j) pairs → IsLineOf 2 (Line.Least pairs)
+    → IsOutlined X contours (at_contour k (length c.points) (length found) (take (j + 1) (stretches_of found)) 0) (lines ++ Line.Least pairs ∷ [])
 found_least X contours k c found j pairs lines o there cover l shown fields =
     let f = found_at found j in
-    outlined_least X contours k (length found) (take (j + 1) (stretches_of found)) (segment_at found j) lines c pairs o there (subst (λ run. ShowsLeast f.axis run (coordinate f.line.a f.axis) pairs) (cover.grown j l) shown) fields
+    outlined_least X contours k (length found) (take (j + 1) (stretches_of found)) (segment_at found j) lines c pairs o there
+    (subst (λ run. ShowsLeast f.axis run (coordinate f.line.a f.axis) pairs) (cover.grown j l) shown) fields
 
 -- the two lines of the next gap
-pub found_gap : (X : Aim) (contours : List Contour) (k : ℕ) (c : Contour) (found : List Found) (j t : ℕ) (v : Evidence) (lines : List Line) → IsOutlined X contours (covered k c found (2 * j + t)) lines → slice_get contours k ≡ Some c → j < length found → t < 2
-    → IsEvidence t (gap_run c.points (stretches_of found) j) v → IsLineOf 2 (Line.Gap t v) → IsOutlined X contours (covered k c found (2 * j + t + 1)) (lines ++ Line.Gap t v ∷ [])
+pub found_gap : (X : Aim) (contours : List Contour) (k : ℕ) (c : Contour) (found : List Found) (j t : ℕ) (v : Evidence) (lines : List Line)
+    → IsOutlined X contours (covered k c found (2 * j + t)) lines → slice_get contours k ≡ Some c → j < length found → t < 2
+    → IsEvidence t (gap_run c.points (stretches_of found) j) v → IsLineOf 2 (Line.Gap t v)
+    → IsOutlined X contours (covered k c found (2 * j + t + 1)) (lines ++ Line.Gap t v ∷ [])
 found_gap X contours k c found j t v lines o there l two good fields =
     let n : length found ≡ length (stretches_of found) = sym (length-map found (λ (f : Found). f.stretch)) in
     let here = subst (λ m. IsOutlined X contours (at_contour k (length c.points) m (stretches_of found) (2 * j + t)) lines) n o in

@@ -1,6 +1,7 @@
 -- A report grows by one good line at a time, up to its `near` lines.
 -- One law for each kind of line that is added; those of contours stand in `ContourGrowth`.
-use Rattle.std.proofs.Common.{◌≡◌, ◌+◌, ◌≤◌, ℕ, zero, suc, ℤ, pos, negsuc, ◌≤ℤ◌, List, [], ◌∷◌, ◌++◌, length, map, drop, refl, sym, ap, ◌∙◌, subst, arith, Some, Option}
+use Rattle.std.proofs.Common.{◌≡◌, ◌+◌, ◌≤◌, ℕ, zero, suc, ℤ, pos, negsuc, ◌≤ℤ◌, List, [], ◌∷◌, ◌++◌, length, map, drop, refl, sym, ap, ◌∙◌, subst, arith, Some}
+use Rattle.std.proofs.Common.{Option}
 use Rattle.std.specs.Prelude.{◌<◌, All, FitsSigned, slice_get}
 use Rattle.std.specs.Int.{w32}
 use Rattle.std.proofs.lemmas.Int.{ints}
@@ -36,7 +37,8 @@ text_push old new lines l e f =
     f ∙ ap (λ t. t ++ line_text l) e
     ∙ sym (flat_map-append line_text lines (l ∷ []) ∙ ap (λ t. text_of lines ++ t) (append-nil (line_text l)))
 
-pub text_more : (IsSo : List Line → Type 0) (old new : List ℕ) (lines : List Line) (l : Line) → old ≡ text_of lines → new ≡ old ++ line_text l → IsSo (lines ++ l ∷ []) → IsTextOf IsSo new
+pub text_more : (IsSo : List Line → Type 0) (old new : List ℕ) (lines : List Line) (l : Line) → old ≡ text_of lines → new ≡ old ++ line_text l
+    → IsSo (lines ++ l ∷ []) → IsTextOf IsSo new
 text_more IsSo old new lines l e f h = record { lines = lines ++ l ∷ []; is = text_push old new lines l e f; so = h }
 
 -- behind the same text
@@ -44,7 +46,9 @@ pub text_behind : {new : List ℕ} (before old more : List ℕ) → new ≡ old 
 text_behind before old more e = ap (λ t. before ++ t) e ∙ sym (append_assoc before old more)
 
 -- where a line is told, the lines of a text that is told are those before it and this one
-pub tells_line : {Was IsSo : List Line → Type 0} {begun before after : DeskState} {old new : Option (List ℕ)} (l : Line) → TellsMore (line_text l) old new before after → ((lines : List Line) → Was lines → IsSo (lines ++ l ∷ [])) → Tells (IsTextOf Was) begun old before → Tells (IsTextOf IsSo) begun new after
+pub tells_line : {Was IsSo : List Line → Type 0} {begun before after : DeskState} {old new : Option (List ℕ)} (l : Line)
+    → TellsMore (line_text l) old new before after → ((lines : List Line) → Was lines → IsSo (lines ++ l ∷ [])) → Tells (IsTextOf Was) begun old before
+    → Tells (IsTextOf IsSo) begun new after
 tells_line {IsSo = IsSo} l call f h = tells_more (line_text l) call (λ text t. text_more IsSo text (text ++ line_text l) t.lines l t.is refl (f t.lines t.so)) h
 
 -- what is so of the lines of a text, where it follows from what was
@@ -60,7 +64,8 @@ sides_fit g n h m = All-from_get_or (FitsSigned w32) n (pos 0) (λ k l. let c = 
     fits (pos n) l h = record { sfits = omega (arith, ints) }
     fits (negsuc n) l h = absurd (omega (arith, ints))
 
-pub heading_fits : (greatest : ℤ) (d : ℕ) (n : Point) (rule : List ℕ) → AreSides greatest n → greatest ≤ℤ pos most_flat → length n ≡ d → IsName rule → IsLineOf d (Line.Shape (record { number = last_number d; sides = n; rule = rule }))
+pub heading_fits : (greatest : ℤ) (d : ℕ) (n : Point) (rule : List ℕ) → AreSides greatest n → greatest ≤ℤ pos most_flat → length n ≡ d → IsName rule
+    → IsLineOf d (Line.Shape (record { number = last_number d; sides = n; rule = rule }))
 heading_fits g d n rule h m e k = ((some d, omega arith), (record { axes = e; fits = sides_fit g n h m }, k))
   where
     some : (d : ℕ) → 1 ≤ last_number d
@@ -70,12 +75,14 @@ heading_fits g d n rule h m e k = ((some d, omega arith), (record { axes = e; fi
 -- ---- one more line
 
 -- the heading stands there first
-good_first : (X : Aim) (sides : Point) → length X.subject.picture.sides ≤ 3 → IsLineOf (length X.subject.picture.sides) (Line.Shape (heading_of X sides)) → IsOnShelf X.subject.shelf X.name X.rule → GoodAfter X.subject [] (Line.Shape (heading_of X sides)) → AreGood X (Line.Shape (heading_of X sides) ∷ [])
+good_first : (X : Aim) (sides : Point) → length X.subject.picture.sides ≤ 3 → IsLineOf (length X.subject.picture.sides) (Line.Shape (heading_of X sides))
+    → IsOnShelf X.subject.shelf X.name X.rule → GoodAfter X.subject [] (Line.Shape (heading_of X sides)) → AreGood X (Line.Shape (heading_of X sides) ∷ [])
 good_first X sides three fields on good =
     let l = Line.Shape (heading_of X sides) in
     record {
       fields = All-push (IsLineOf (length X.subject.picture.sides)) [] l (All-nil (IsLineOf (length X.subject.picture.sides))) fields;
-      short = All-push (λ m. length (spelling m) ≤ 1024) [] l (All-nil (λ m. length (spelling m) ≤ 1024)) (short_line (length X.subject.picture.sides) l three fields);
+      short = All-push (λ m. length (spelling m) ≤ 1024) [] l (All-nil (λ m. length (spelling m) ≤ 1024))
+          (short_line (length X.subject.picture.sides) l three fields);
       good = good_push (analysis X.subject) [] l (λ k m e. cc) good;
       named = record { sides = sides; first = refl; on_shelf = on };
     }
@@ -88,7 +95,8 @@ heading_kept X lines l named good = record {
   on_shelf = named.on_shelf;
 }
 
-pub good_more : (X : Aim) (lines : List Line) (l : Line) → AreGood X lines → length X.subject.picture.sides ≤ 3 → IsLineOf (length X.subject.picture.sides) l → GoodAfter X.subject lines l → AreGood X (lines ++ l ∷ [])
+pub good_more : (X : Aim) (lines : List Line) (l : Line) → AreGood X lines → length X.subject.picture.sides ≤ 3 → IsLineOf (length X.subject.picture.sides) l
+    → GoodAfter X.subject lines l → AreGood X (lines ++ l ∷ [])
 good_more X lines l a three fields good = record {
   fields = All-push (IsLineOf (length X.subject.picture.sides)) lines l a.fields fields;
   short = All-push (λ m. length (spelling m) ≤ 1024) lines l a.short (short_line (length X.subject.picture.sides) l three fields);
@@ -100,8 +108,11 @@ good_more X lines l a three fields good = record {
 pub names_rule : (X : Aim) (lines : List Line) → HasHeading X lines → NamesRule X.subject.shelf (lines_of Section.Heading lines) X.rule
 names_rule X lines h = record { heading = heading_of X h.sides; first_is = h.first; on_shelf = h.on_shelf }
 
-pub growing_none : (greatest : ℤ) (X : Aim) (sides : Point) (n o b : ℕ) → AreSides greatest sides → sides_of sides ≡ X.subject.picture.sides → length X.subject.picture.sides ≤ 3
-    → IsLineOf (length X.subject.picture.sides) (Line.Shape (heading_of X sides)) → IsOnShelf X.subject.shelf X.name X.rule → IsLineOf (length X.subject.picture.sides) (Line.Parts n o b) → Counts X.subject.picture n o b → IsGrowing X 0 (Line.Shape (heading_of X sides) ∷ Line.Parts n o b ∷ [])
+pub growing_none : (greatest : ℤ) (X : Aim) (sides : Point) (n o b : ℕ) → AreSides greatest sides → sides_of sides ≡ X.subject.picture.sides
+    → length X.subject.picture.sides ≤ 3
+    → IsLineOf (length X.subject.picture.sides) (Line.Shape (heading_of X sides)) → IsOnShelf X.subject.shelf X.name X.rule
+    → IsLineOf (length X.subject.picture.sides) (Line.Parts n o b) → Counts X.subject.picture n o b
+    → IsGrowing X 0 (Line.Shape (heading_of X sides) ∷ Line.Parts n o b ∷ [])
 growing_none g X sides n o b h e three first on second counts =
     let l = Line.Shape (heading_of X sides) in
     let m = Line.Parts n o b in
@@ -118,10 +129,13 @@ growing_none g X sides n o b h e three first on second counts =
 
 -- ---- the `near` lines
 
-pub growing_more : (X : Aim) (n : ℕ) (lines : List Line) (p q : Point) (s : ℕ) → IsGrowing X n lines → length X.subject.picture.sides ≤ 3 → IsLineOf (length X.subject.picture.sides) (Line.Near p q s) → slice_get (object_points X.subject.picture) n ≡ Some p → Least X.subject.picture p q s → IsGrowing X (n + 1) (lines ++ Line.Near p q s ∷ [])
+pub growing_more : (X : Aim) (n : ℕ) (lines : List Line) (p q : Point) (s : ℕ) → IsGrowing X n lines → length X.subject.picture.sides ≤ 3
+    → IsLineOf (length X.subject.picture.sides) (Line.Near p q s) → slice_get (object_points X.subject.picture) n ≡ Some p → Least X.subject.picture p q s
+    → IsGrowing X (n + 1) (lines ++ Line.Near p q s ∷ [])
 growing_more X n lines p q s h three fields there least =
     let l = Line.Near p q s in
-    let good : GoodAfter X.subject lines l = good_at X.subject Section.Nearest lines l h.come refl (ap (slice_get (object_points X.subject.picture)) h.nears ∙ there, least) in
+    let good : GoodAfter X.subject lines l = good_at X.subject Section.Nearest lines l h.come refl
+    (ap (slice_get (object_points X.subject.picture)) h.nears ∙ there, least) in
     record {
       lines_good = good_more X lines l h.lines_good three fields good;
       come = come_more X.subject Section.Nearest lines l h.come refl;
@@ -153,5 +167,6 @@ all_get P (y ∷ xs) zero x a e = let h : y ≡ x = cc in subst P h (All-head P 
 all_get P (y ∷ xs) (suc i) x a e = all_get P xs i x (All-tail P y xs a) e
 
 -- the line of two points near the box
-pub near_fits : (d : ℕ) (p q : Point) → d ≤ 3 → length p ≡ d → length q ≡ d → IsWithin (negsuc 0) (pos most_coordinate) p → IsWithin (negsuc 0) (pos most_coordinate) q → IsLineOf d (near_line p q)
+pub near_fits : (d : ℕ) (p q : Point) → d ≤ 3 → length p ≡ d → length q ≡ d → IsWithin (negsuc 0) (pos most_coordinate) p
+    → IsWithin (negsuc 0) (pos most_coordinate) q → IsLineOf d (near_line p q)
 near_fits d p q few lp lq wp wq = (within_short d p lp wp, (within_short d q lq wq, distance_fits p q (omega (arith, few, lp)) wp wq))

@@ -20,7 +20,8 @@ use Rattle.shape_analyse.specs.declared.tally.Tally.{Tally}
 use Rattle.shape_analyse.specs.Finding.{IsThinnedBy}
 use Rattle.shape_analyse.specs.Tallies.{HasSegments, HaveCovers, IsExtentOf, HasThinning, IsTallyOf, exposed_in, exposed_count}
 
-pub covers_more : (contours : List Contour) (k m n : ℕ) (c : Contour) → slice_get contours k ≡ Some c → HaveCovers (take k contours) m → HasSegments c n → HaveCovers (take (k + 1) contours) (m + n)
+pub covers_more : (contours : List Contour) (k m n : ℕ) (c : Contour) → slice_get contours k ≡ Some c → HaveCovers (take k contours) m → HasSegments c n
+    → HaveCovers (take (k + 1) contours) (m + n)
 covers_more contours k m n c there have more =
     let e : k + 1 ≡ suc k = omega arith in
     let all : HaveCovers (take k contours ++ c ∷ []) (m + n) = record {
@@ -31,13 +32,15 @@ covers_more contours k m n c there have more =
     rw (e, ← take_next contours k c there) all
 
 range_push : (k : ℕ) → range_with_len 0 (k + 1) ≡ range_with_len 0 k ++ k ∷ []
-range_push k = sym (map-id (range_with_len 0 (k + 1))) ∙ map-range_with_len_more (λ n. n) 0 k k (omega arith) ∙ ap (λ ns. ns ++ k ∷ []) (map-id (range_with_len 0 k))
+range_push k = sym (map-id (range_with_len 0 (k + 1))) ∙ map-range_with_len_more (λ n. n) 0 k k (omega arith)
+    ∙ ap (λ ns. ns ++ k ∷ []) (map-id (range_with_len 0 k))
 
 pub exposed_more : (X : Picture) (k : ℕ) → exposed_count X (k + 1) ≡ exposed_count X k + exposed_in X k
 exposed_more X k = rw (range_push k) (sum_by_push (exposed_in X) (range_with_len 0 k) k)
 
 -- the rule in a place of a shelf is the one that stands there
-pub rule_at : {R : Type 0} (means : R → Rule) (shelf : List (Named R)) (i : ℕ) (r : R) (rule : Rule) → slice_get (rules_of shelf) i ≡ Some r → slice_get (rules_of (rules_on means shelf)) i ≡ Some rule → means r ≡ rule
+pub rule_at : {R : Type 0} (means : R → Rule) (shelf : List (Named R)) (i : ℕ) (r : R) (rule : Rule) → slice_get (rules_of shelf) i ≡ Some r
+    → slice_get (rules_of (rules_on means shelf)) i ≡ Some rule → means r ≡ rule
 rule_at means [] i r rule a b = cc
 rule_at means (e ∷ es) zero r rule a b =
     let same : e.rule ≡ r = cc in
@@ -46,9 +49,13 @@ rule_at means (e ∷ es) zero r rule a b =
 rule_at means (e ∷ es) (suc i) r rule a b = rule_at means es i r rule a b
 
 -- a thinning tells how many events it has and how many points it leaves
-pub has_thinning : (rule : Rule) (X : Picture) (run : Run) (n kept : ℕ) → IsThinnedBy rule X run → n ≡ length run.events → kept ≡ length (object_points run.left) → HasThinning rule X n kept
-has_thinning rule X run n kept t e k = record { events = run.events; stage = t.stage; thinning = t.thinning; n_is = e; kept_are = k ∙ ap (λ Y. length (object_points Y)) (sym t.left) }
+pub has_thinning : (rule : Rule) (X : Picture) (run : Run) (n kept : ℕ) → IsThinnedBy rule X run → n ≡ length run.events
+    → kept ≡ length (object_points run.left) → HasThinning rule X n kept
+has_thinning rule X run n kept t e k =
+    record { events = run.events; stage = t.stage; thinning = t.thinning; n_is = e; kept_are = k ∙ ap (λ Y. length (object_points Y)) (sym t.left) }
 
 -- the numbers of a picture by a rule are those of the same picture by the same rule
-pub tally_of : (Y X : Picture) (by rule : Rule) (t : Tally) → Y ≡ X → by ≡ rule → Counts Y t.points t.parts.object t.parts.background → IsExtentOf Y t.extent → HasThinning by Y t.events t.kept → IsTallyOf X rule t
-tally_of Y X by rule t same ruled counts extent thinning = subst (λ Z. IsTallyOf Z rule t) same (record { counts = counts; extent = extent; thinning = subst (λ r. HasThinning r Y t.events t.kept) ruled thinning })
+pub tally_of : (Y X : Picture) (by rule : Rule) (t : Tally) → Y ≡ X → by ≡ rule → Counts Y t.points t.parts.object t.parts.background → IsExtentOf Y t.extent
+    → HasThinning by Y t.events t.kept → IsTallyOf X rule t
+tally_of Y X by rule t same ruled counts extent thinning =
+    subst (λ Z. IsTallyOf Z rule t) same (record { counts = counts; extent = extent; thinning = subst (λ r. HasThinning r Y t.events t.kept) ruled thinning })

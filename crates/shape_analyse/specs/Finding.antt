@@ -16,7 +16,8 @@ use Rattle.shape_analyse.specs.Tallies.{IsExtentOf}
 
 -- the text is that of the outline of a picture of d axes: behind all lines before those of contours it comes to all lines before those of the thinning
 abbrev pub IsOutlineOf : ℕ → Picture → List ℕ → Type 0
-IsOutlineOf d X text = (shelf : List (Named Rule)) (name : List ℕ) (by : Rule) (before : List ℕ) → HasNears (aim_of X shelf name by) before → HasSurveyed d (aim_of X shelf name by) (before ++ text)
+IsOutlineOf d X text = (shelf : List (Named Rule)) (name : List ℕ) (by : Rule) (before : List ℕ) → HasNears (aim_of X shelf name by) before
+    → HasSurveyed d (aim_of X shelf name by) (before ++ text)
 
 -- what was found of a picture: the name of the rule it was thinned by, how many components its object and its background have, the nearest
 -- background points, the text of its outline and the extent of that, and its thinning

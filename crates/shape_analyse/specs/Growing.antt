@@ -13,7 +13,7 @@ use Rattle.report_terms.specs.Lines.{Line, Heading, spelling, text_of, IsLineOf}
 use Rattle.report_terms.specs.ContourLines.{Standing, standing, IsFull}
 use Rattle.report_terms.specs.ThinningLines.{events_of, kept_facts, ThinningComplete}
 use Rattle.report_terms.specs.Sections.{Section, lines_of, HasCome, GoodSoFar}
-use Rattle.shape_cover.specs.Found.{Found, stretches_of, IsCoverOf}
+use Rattle.shape_line.specs.Found.{Found, stretches_of, IsCoverOf}
 
 -- what a report is to be about, and by which of its rules the picture is to be thinned
 pub record Aim : Type 0 where
@@ -55,7 +55,8 @@ pub record IsOutlined (X : Aim) (contours : List Contour) (s : Standing) (lines 
   pub come : HasCome X.subject Section.Contours lines
   pub stands : standing (lines_of Section.Contours lines) ≡ s
 
--- where k contours have all their lines and one more was begun: how many points it was given, how many segments it is to have, and the stretches, each with its `least` line, and how many gap lines it was given
+-- where k contours have all their lines and one more was begun: how many points it was given, how many segments it is to have, and the stretches, each with its
+-- `least` line, and how many gap lines it was given
 abbrev pub at_contour : (k points declared : ℕ) → List Stretch → (gaps : ℕ) → Standing
 at_contour k n m stretches g = record { begun = k + 1; points = n; declared = m; stretches = stretches; last = None; gaps = g }
 

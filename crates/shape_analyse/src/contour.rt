@@ -1,16 +1,16 @@
 //! The lines of the contours of a flat picture: each with its points, its segments, and the evidence for the gaps between these.
-//! What is found of a contour comes from `shape_crack` and `shape_cover`.
+//! What is found of a contour comes from `shape_crack` and `shape_line`.
 ghost use Rattle.std.specs.Prelude.{◌≡◌, ◌≤◌, ◌<◌, ◌+◌, ◌*◌, ◌^◌, ℕ, List, [], ◌∷◌, ◌++◌, Some, slice_get, IfOk, OnOk, length, All};
 ghost use Rattle.shape_terms.specs.Limits.{most_round};
 ghost use Rattle.shape_terms.specs.Traces.{Contour as Trace};
 ghost use Rattle.shape_crack.specs.Terms.{point_of};
-ghost use Rattle.shape_cover.specs.Found.{IsCoverOf};
+ghost use Rattle.shape_line.specs.Found.{IsCoverOf};
 ghost use Rattle.shape_analyse.specs.Growing.{Aim, HasOutlined, IsTextOf, Stands, IsSomeCover, outlined, covered};
 ghost use Rattle.shape_analyse.specs.Tallies.{HasSegments, HaveCovers};
 
 use report_text::Report;
-use shape_cover::{Cover, cover};
 use shape_crack::{Contour, Contours};
+use shape_line::{Cover, cover};
 use shape_report::Line;
 use shape_space::{NoMemory, P2};
 use std::alloc::Global;

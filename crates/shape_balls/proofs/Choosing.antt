@@ -1,6 +1,7 @@
 -- From balls that are kept to a list of balls that a report may hold.
 -- Stated of pictures, facts and marks; how the balls are kept belongs elsewhere.
-use Rattle.std.proofs.Common.{◌≡◌, ◌≢◌, ◌⊎◌, inl, inr, ℕ, ◌+◌, ◌<◌, Bool, true, false, ap, sym, ◌∙◌, subst, arith, List, [], ◌∷◌, ◌++◌, length, length-append, map}
+use Rattle.std.proofs.Common.{◌≡◌, ◌≢◌, ◌⊎◌, inl, inr, ℕ, ◌+◌, ◌<◌, Bool, true, false, ap, sym, ◌∙◌, subst, arith, List, [], ◌∷◌, ◌++◌, length, length-append}
+use Rattle.std.proofs.Common.{map}
 use Rattle.std.specs.Prelude.{IsTrue}
 use Rattle.std.proofs.lemmas.Bool.{ltb-true, lt-ltb}
 use Rattle.std.proofs.lemmas.List.{get_or_past, map-append}
@@ -24,7 +25,8 @@ below_more : (i j : ℕ) → j < i + 1 → (j < i) ⊎ (j ≡ i)
 below_more i j l = elim (dec_lt j i) [ yes m ↦ inl m | no m ↦ inr (omega arith) ]
 
 -- an entry that is not kept
-pub chosen_skip : (X : Picture) (facts : List NearFact) (kept : List Bool) (i : ℕ) (balls : List Ball) → is_marked kept i ≡ false → IsChosen X facts kept i balls → IsChosen X facts kept (i + 1) balls
+pub chosen_skip : (X : Picture) (facts : List NearFact) (kept : List Bool) (i : ℕ) (balls : List Ball) → is_marked kept i ≡ false
+    → IsChosen X facts kept i balls → IsChosen X facts kept (i + 1) balls
 chosen_skip X facts kept i balls n c = record {
   few = (let f = c.few in omega arith);
   good = c.good;
@@ -41,10 +43,15 @@ module _ (X : Picture) (facts : List NearFact) (field : IsField X facts) (kept c
 
   -- a point of the ball of a fact
   in_ball : (i : ℕ) (p : Point) → IsTrue (at X p) → ball_holds (fact_at facts i) p ≡ true → InBall X (ball_at (fact_at facts i)) p
-  in_ball i p o h = record { point = in_box_length X.sides p (object_in_box X p o); nearer = ltb-true (squared_distance (fact_at facts i).p p) (fact_at facts i).s h }
+  in_ball i p o h = record {
+    point = in_box_length X.sides p (object_in_box X p o);
+    nearer = ltb-true (squared_distance (fact_at facts i).p p)
+        (fact_at facts i).s h;
+  }
 
   -- a kept entry
-  pub chosen_more : (i : ℕ) (balls : List Ball) → i < length facts → is_marked kept i ≡ true → IsChosen X facts kept i balls → IsChosen X facts kept (i + 1) (balls ++ ball_at (fact_at facts i) ∷ [])
+  pub chosen_more : (i : ℕ) (balls : List Ball) → i < length facts → is_marked kept i ≡ true → IsChosen X facts kept i balls
+      → IsChosen X facts kept (i + 1) (balls ++ ball_at (fact_at facts i) ∷ [])
   chosen_more i balls l t c = record {
     few = (let f = c.few in omega (arith, length-append balls (b ∷ [])));
     good = good_push X balls b c.good claim;
@@ -64,7 +71,8 @@ module _ (X : Picture) (facts : List NearFact) (field : IsField X facts) (kept c
       claim : BallClaim X balls b
       claim = record {
         object = fact_object X facts field i l;
-        after = each_of balls (λ e. Before e.centre b.centre) (λ n x e. (let f = c.from n x e in subst (λ (y : Ball). Before y.centre b.centre) (sym f.3) (facts_rise X facts field f.0 i f.1 l)));
+        after = each_of balls (λ e. Before e.centre b.centre)
+            (λ n x e. (let f = c.from n x e in subst (λ (y : Ball). Before y.centre b.centre) (sym f.3) (facts_rise X facts field f.0 i f.1 l)));
         least = fact_least X facts field i l;
         own = in_ball i (fact_at facts i).p (fact_object X facts field i l) (centre_held X facts field i l);
         in_no_earlier = each_of balls (λ e. InBall X e b.own → ⊥) (λ n x e h. (
@@ -75,11 +83,16 @@ module _ (X : Picture) (facts : List NearFact) (field : IsField X facts) (kept c
             holds_not f.0 i f.2 t (λ z. (let m = f.1 in omega arith)) (subst (λ (y : Ball). InBall X b y.own) f.3 h)));
       }
 
-  pub chosen_push : {A : Type 0} (v : A → Ball) (i : ℕ) (xs : List A) (x : A) (p q : Point) (s : ℕ) → i < length facts → is_marked kept i ≡ true → fact_at facts i ≡ record { p = p; q = q; s = s } → v x ≡ ball_by p q s p → IsChosen X facts kept i (map v xs) → IsChosen X facts kept (i + 1) (map v (xs ++ x ∷ []))
-  chosen_push v i xs x p q s l t f e c = subst (IsChosen X facts kept (i + 1)) (ap (λ b. map v xs ++ b ∷ []) (ap ball_at f ∙ sym e) ∙ sym (map-append v xs (x ∷ []))) (chosen_more i (map v xs) l t c)
+  pub chosen_push : {A : Type 0} (v : A → Ball) (i : ℕ) (xs : List A) (x : A) (p q : Point) (s : ℕ) → i < length facts → is_marked kept i ≡ true
+      → fact_at facts i ≡ record { p = p; q = q; s = s } → v x ≡ ball_by p q s p → IsChosen X facts kept i (map v xs)
+      → IsChosen X facts kept (i + 1) (map v (xs ++ x ∷ []))
+  chosen_push v i xs x p q s l t f e c =
+      subst (IsChosen X facts kept (i + 1)) (ap (λ b. map v xs ++ b ∷ []) (ap ball_at f ∙ sym e) ∙ sym (map-append v xs (x ∷ [])))
+      (chosen_more i (map v xs) l t c)
 
   -- all entries passed, and each centre in a kept ball: the list is one that a report may hold
-  pub chosen_all : (i : ℕ) (balls : List Ball) → i ≡ length facts → ((i : ℕ) → i < length facts → InKept facts kept (fact_at facts i).p) → IsChosen X facts kept i balls → AreBalls X balls
+  pub chosen_all : (i : ℕ) (balls : List Ball) → i ≡ length facts → ((i : ℕ) → i < length facts → InKept facts kept (fact_at facts i).p)
+      → IsChosen X facts kept i balls → AreBalls X balls
   chosen_all i balls n all c = record {
     few = (let e = length-facts X facts field in let f = c.few in omega arith);
     each = c.good;

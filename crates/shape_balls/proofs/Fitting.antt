@@ -40,7 +40,8 @@ module _ (X : Picture) (facts : List NearFact) (field : IsField X facts) (framed
       let few : length f.p ≤ 3 = (let e = p.axes in omega arith) in
       (p, (q, (subst weight.InRange (sym least.distance) (distance_fits f.p f.q few near.p near.q), p)))
 
-  pub chosen_fit : (kept : List Bool) (i : ℕ) (balls : List Ball) → i ≤ length facts → IsChosen X facts kept i balls → All (λ b. (spelled d).IsLine (Line.Ball b)) balls
+  pub chosen_fit : (kept : List Bool) (i : ℕ) (balls : List Ball) → i ≤ length facts → IsChosen X facts kept i balls
+      → All (λ b. (spelled d).IsLine (Line.Ball b)) balls
   chosen_fit kept i balls h c = each_of balls (λ b. (spelled d).IsLine (Line.Ball b)) (λ k b e. (
       let f = c.from k b e in
       subst (λ (b : Ball). (spelled d).IsLine (Line.Ball b)) (sym f.3) (fact_fits f.0 (let m = f.1 in omega arith))))

@@ -1,10 +1,12 @@
 -- The two forms of cells: one for each place, or one for each true value of a row.
 -- Laws over lists alone.
-use Rattle.std.proofs.Common.{◌≡◌, ℕ, ◌+◌, ◌-◌, ◌<◌, ◌≤◌, ◌⊎◌, Bool, true, false, List, [], ◌∷◌, ◌++◌, length, map, set, take, drop, replicate, get_or, refl, sym, ap, ap₂, subst, ◌∙◌, arith, inl, inr}
+use Rattle.std.proofs.Common.{◌≡◌, ℕ, ◌<◌, ◌≤◌, Bool, true, false, List, [], ◌∷◌, length, map, set, replicate, get_or, refl}
+use Rattle.std.proofs.Common.{sym, ap, ap₂, subst, ◌∙◌, arith, inl, inr}
 use Rattle.std.specs.Prelude.{Option, Some, None, MatchOption, if◌then◌else◌, slice_get, nat_lt}
 use Rattle.std.specs.Bool.{then_some}
 use Rattle.std.proofs.lemmas.Bool.{cases_Bool, lt-ltb, ltb-true}
-use Rattle.std.proofs.lemmas.List.{length-replicate, get_or-replicate, length-set, length-append, length-take, length-drop, get_or_append_left, get_or-append_right, get_or-take, get_or-drop, get_or_past}
+use Rattle.std.proofs.lemmas.List.{length-replicate, get_or-replicate, length-set}
+use Rattle.std.proofs.lemmas.List.{get_or_past}
 use Rattle.std.proofs.lemmas.Option.{slice_get-get_or}
 use Rattle.std.specs.List.{range_with_len}
 use Rattle.std.proofs.lemmas.List.FromFn.{length-map-range_with_len, get_or-map-range_with_len}
@@ -51,25 +53,6 @@ module _ {A : Type 0} where
   pub all_put : (cells : List A) (i : ℕ) (v : A) → i < length cells → all_kept (set cells i v) ≡ with_value (all_kept cells) i v
   all_put cells i v l = ap₂ (λ (vs : List A) ks. record { values = vs; kept = ks })
       (sym (ap (λ b. if b then set cells i v else cells) (marked cells i l))) (same_marks cells (set cells i v) (length-set cells i v))
-
-  -- a row of them is written
-  pub pasted : (cells row : List A) (a n i : ℕ) (d : A) → n ≡ length row → a + n ≤ length cells → (i < a) ⊎ (a + n ≤ i)
-      → get_or (take a cells ++ (row ++ drop n (drop a cells))) i d ≡ get_or cells i d
-  pasted cells row a n i d m l (inl before) =
-      get_or_append_left (take a cells) (row ++ drop n (drop a cells)) d i (omega (arith, l, before, length-take a cells)) ∙ get_or-take a cells i d before
-  pasted cells row a n i d m l (inr behind) =
-      let taken : length (take a cells) ≡ a = omega (arith, l, length-take a cells) in
-      let e : a + (n + (i - a - n)) ≡ i = omega (arith, behind) in
-      get_or-append_right (take a cells) (row ++ drop n (drop a cells)) a i d taken (omega (arith, behind))
-      ∙ get_or-append_right row (drop n (drop a cells)) n (i - a) d (sym m) (omega (arith, behind))
-      ∙ get_or-drop n (drop a cells) (i - a - n) d ∙ get_or-drop a cells (n + (i - a - n)) d ∙ ap (λ k. get_or cells k d) e
-
-  pub pasted_long : (cells row : List A) (a n : ℕ) → n ≡ length row → a + n ≤ length cells
-      → length (take a cells ++ (row ++ drop n (drop a cells))) ≡ length cells
-  pasted_long cells row a n m l =
-      let s = length-append (take a cells) (row ++ drop n (drop a cells)) in
-      let t = length-append row (drop n (drop a cells)) in
-      omega (arith, s, t, m, l, length-take a cells, length-drop n (drop a cells), length-drop a cells)
 
 -- ---- either form
 
@@ -133,17 +116,6 @@ module _ {A : Type 0} (bare : ℕ → A) (o : Option (List Bool)) (cells : List 
         ((k : ℕ) → from ≤ k → get_or h.kept k false ≡ false) (λ k. IsFirstTrue h.kept from k)
     none_first from = subst (λ (h : Held A). MatchOption (then_some (nat_lt from (length cells)) from)
         ((k : ℕ) → from ≤ k → get_or h.kept k false ≡ false) (λ k. IsFirstTrue h.kept from k)) none_view (all_first cells from)
-
-    -- where a row of the cells is written, the places of that row hold other values at most
-    pub none_pasted : (row : List A) (a n : ℕ) → n ≡ length row → a + n ≤ length cells → (d : A) (i : ℕ) → ((y : ℕ) → y < n → i ≡ a + y → HasCell h i → ⊥)
-        → get_or (held bare o (take a cells ++ (row ++ drop n (drop a cells)))).values i d ≡ get_or h.values i d
-    none_pasted row a n m l d i none = none_same (take a cells ++ (row ++ drop n (drop a cells))) i d (pasted cells row a n i d m l (elim (dec_lt i a) [
-      | yes b ↦ inl b
-      | no b ↦ elim (dec_lt i (a + n)) [
-        | yes e ↦ absurd (none (i - a) (omega (arith, b, e)) (omega (arith, b)) (none_has i (let t = none_length in omega (arith, e, l, t))))
-        | no e ↦ inr (omega (arith, e))
-      ]
-    ]))
 
 -- ---- the cells of all places at the beginning
 

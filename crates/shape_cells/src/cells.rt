@@ -3,6 +3,7 @@
 ghost use Rattle.std.specs.Prelude.{◌≡◌, ◌+◌, ◌*◌, ◌<◌, ◌≤◌, ℕ, IfOk, MatchOption, Some, true, false, length, map, slice_get, slice_index_or};
 ghost use Rattle.std.specs.List.{range_with_len};
 ghost use Rattle.shape_terms.specs.Limits.{most_framed, most_coordinate};
+ghost use Rattle.shape_grid.specs.Runs.{IsRunEnd};
 ghost use Rattle.shape_grid.specs.Truths.{IsFirstTrue};
 ghost use Rattle.shape_cells.specs.Counting.{trues};
 ghost use Rattle.shape_cells.specs.Held.{HasCell, IsBareElsewhere, with_value, all_kept};
@@ -118,6 +119,19 @@ impl<T: Cell> Cells<T> {
         }
     }
 
+    /// The first place from a place on that has a cell of its own, and `until` where there is none before it.
+    #[inline]
+    pub fn first_before(&self, from: u32, until: u32) -> u32
+        requires ordered { from ≤ until }
+        requires within { until ≤ length self.now.values }
+        ensures { IsRunEnd self.now.kept false from until result }
+    {
+        match &self.objects {
+            Some(objects) => objects.first_before(from, until),
+            None => from,
+        }
+    }
+
     /// A numbering of the places that have a cell of their own, unless each place has one.
     pub fn numbering(&self, alloc: Global) -> Result<Option<Numbering>, NoMemory>
         ensures { IfOk result (λ o. MatchOption o
@@ -151,28 +165,6 @@ impl<T: Cell> Cells<T> {
         match &self.objects {
             Some(objects) => few::put(objects, &mut self.cells, place, value),
             None => self.cells[place as usize] = value,
-        }
-    }
-
-    /// Has places in a row hold the values of `row`, from a place on: each that has a cell of its own.
-    pub fn put_row(&mut self, row: &[T], start: u32)
-        requires { start + length row.now ≤ length self.old.values }
-        ensures put { (d : T) (y : ℕ) → y < length row.now → HasCell self.old (start + y)
-            → slice_index_or self.new.values (start + y) d ≡ slice_index_or row.now y d }
-        ensures others { (d : T) (i : ℕ)
-            → ((y : ℕ) → y < length row.now → i ≡ start + y → HasCell self.old i → ⊥)
-            → slice_index_or self.new.values i d ≡ slice_index_or self.old.values i d }
-        ensures long { length self.new.values ≡ length self.old.values }
-        ensures kept { self.new.kept ≡ self.old.kept }
-    {
-        match &self.objects {
-            Some(objects) => {
-                few::put_places(objects, &mut self.cells, row, start, 0, 1, row.len());
-            }
-            None => {
-                let from = start as usize;
-                self.cells[from..from + row.len()].copy_from_slice(row);
-            }
         }
     }
 

@@ -52,7 +52,7 @@ pub(crate) fn put<T: Cell>(objects: &Numbering, cells: &mut [T], place: u32, val
     }
 }
 
-/// Copies what so many places in a row hold, from a place on, to the places number y of the lines of a block.
+// Copies what so many places in a row hold, from a place on, to the places number y of the lines of a block.
 fn take_places<T: Cell>(
     objects: &Numbering,
     cells: &[T],
@@ -85,8 +85,8 @@ fn take_places<T: Cell>(
     }
 }
 
-/// Copies the places number y of the lines of a block back to where `take_places` finds them: to each whose value in the row is true.
-pub(crate) fn put_places<T: Cell>(
+// Copies the places number y of the lines of a block back to where `take_places` finds them: to each whose value in the row is true.
+fn put_places<T: Cell>(
     objects: &Numbering,
     cells: &mut [T],
     block: &[T],

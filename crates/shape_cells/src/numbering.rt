@@ -2,6 +2,7 @@
 //! How bits are counted belongs elsewhere.
 ghost use Rattle.std.specs.Prelude.{◌≡◌, ◌<◌, ◌≤◌, ℕ, IfOk, MatchOption, length, false, slice_index_or};
 ghost use Rattle.shape_terms.specs.Limits.{most_framed};
+ghost use Rattle.shape_grid.specs.Runs.{IsRunEnd};
 ghost use Rattle.shape_grid.specs.Truths.{IsFirstTrue};
 ghost use Rattle.shape_cells.specs.Counting.{trues, trues_before, AreCounts};
 
@@ -96,5 +97,16 @@ impl Numbering {
         let _counts = &self.counts;
         let place = self.bits.first_from(from as usize)?;
         Some(place as u32)
+    }
+
+    /// The first place from a place on whose value is true, and `until` where there is none before it.
+    #[inline]
+    pub fn first_before(&self, from: u32, until: u32) -> u32
+        requires ordered { from ≤ until }
+        requires within { until ≤ length self.now }
+        ensures { IsRunEnd self.now false from until result }
+    {
+        let _counts = &self.counts;
+        self.bits.end_of_falses(from as usize, until as usize) as u32
     }
 }

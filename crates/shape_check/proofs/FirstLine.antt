@@ -36,13 +36,17 @@ use Rattle.shape_check.specs.Heading.{IsHeading, IsNoHeading, TakesHeading, Lack
 -- ---- what looking for the heading answers
 
 module _ (d : ℕ) (sides : Point) (names : List (List ℕ)) (old new : Option (List ℕ)) (before now : ℕ) where
-  pub answer_claim : (l : Line) (r : Option Given) → IfTold old (λ bytes. TakesClaim d bytes new l) → MatchOption r (IsNoHeading sides names l) (IsHeading sides names l)
+  pub answer_claim : (l : Line) (r : Option Given) → IfTold old (λ bytes. TakesClaim d bytes new l)
+      → MatchOption r (IsNoHeading sides names l) (IsHeading sides names l)
       → HeadingAnswer d sides names old new before now (Ok r)
-  answer_claim l None t h = if_told old (λ bytes k m rest starts. subst (IsNoHeading sides names) (sym (one_line (spelled d) (are_spelled d) bytes m l rest k.rest starts k.starts).0) h) t
+  answer_claim l None t h =
+      if_told old (λ bytes k m rest starts. subst (IsNoHeading sides names) (sym (one_line (spelled d) (are_spelled d) bytes m l rest k.rest starts k.starts).0)
+      h) t
   answer_claim l (Some given) t h = if_told old (λ bytes k. record { line = l; takes = k; heading = h }) t
 
 -- a heading that names a rule on a shelf of distinct names names no other
-ruled_by : (X : Subject) → AreNames (names_of X.shelf) → (heading : List Line) (rule : Rule) → NamesRule X.shelf heading rule → IsRuledBy X heading (number_of heading) rule
+ruled_by : (X : Subject) → AreNames (names_of X.shelf) → (heading : List Line) (rule : Rule) → NamesRule X.shelf heading rule
+    → IsRuledBy X heading (number_of heading) rule
 ruled_by X apart heading rule names = record { numbered = refl; names = names; alone = λ other o. one_named X.shelf apart heading other rule o names }
 
 -- ---- behind the heading
@@ -52,7 +56,8 @@ module _ (X : Subject) (h : Heading) (rule : Rule) (given : h.sides ≡ map pos 
   good_first : GoodAfter X [] (Line.Shape h)
   good_first = record { come = come_none X; claim = (refl, (given, (rule, on))) }
 
-  pub behind_heading : AreNames (names_of X.shelf) → (s : Section) → rank s ≡ 1 → (text : List ℕ) (new : Option (List ℕ)) → TakesClaim (length X.picture.sides) text new (Line.Shape h) → GoingOn (analysis X) text new (BehindHeading X h.number rule s) 2
+  pub behind_heading : AreNames (names_of X.shelf) → (s : Section) → rank s ≡ 1 → (text : List ℕ) (new : Option (List ℕ))
+      → TakesClaim (length X.picture.sides) text new (Line.Shape h) → GoingOn (analysis X) text new (BehindHeading X h.number rule s) 2
   behind_heading apart s one text new t = record {
     lines = Line.Shape h ∷ [];
     bytes = t.rest;
@@ -67,31 +72,41 @@ module _ (X : Subject) (h : Heading) (rule : Rule) (given : h.sides ≡ map pos 
   }
 
 -- a text that begins with no heading has a bad first line
-pub no_heading : (X : Subject) (sides : Point) (text : List ℕ) → sides ≡ map pos X.picture.sides → LacksHeading (length X.picture.sides) sides (names_of X.shelf) text → FirstBad X text 1
-no_heading X sides text given lacks = first_bad (analysis X) (are_spelled (length X.picture.sides)) text [] text (begins_none (analysis X) text) (λ l rest starts good. bad l rest starts good) (λ front e z. let m = ap length e in omega (arith, m, length-append front (Line.End ∷ [])))
+pub no_heading : (X : Subject) (sides : Point) (text : List ℕ) → sides ≡ map pos X.picture.sides
+    → LacksHeading (length X.picture.sides) sides (names_of X.shelf) text → FirstBad X text 1
+no_heading X sides text given lacks = first_bad (analysis X) (are_spelled (length X.picture.sides)) text [] text (begins_none (analysis X) text)
+    (λ l rest starts good. bad l rest starts good) (λ front e z. let m = ap length e in omega (arith, m, length-append front (Line.End ∷ [])))
   where
     bad : (l : Line) (rest : List ℕ) → StartsWithLine (length X.picture.sides) text l rest → GoodAfter X [] l → ⊥
-    bad (Line.Shape h) rest starts good = lacks (Line.Shape h) rest starts h refl (good.claim.1.0 ∙ sym given) (Contains-map (λ e. e.name) X.shelf _ good.claim.1.1.1)
+    bad (Line.Shape h) rest starts good = lacks (Line.Shape h) rest starts h refl (good.claim.1.0 ∙ sym given)
+        (Contains-map (λ e. e.name) X.shelf _ good.claim.1.1.1)
     bad l rest starts good = absurd (let c = good.come.complete Section.Heading (omega arith) in omega (arith, c))
 
 -- ---- the heading, where the rules stand on a shelf
 
-module _ {R : Type 0} (means : R → Rule) (X : Picture) (shelf : List (Named R)) (d : ℕ) (axes : length X.sides ≡ d) (sides : Point) (given : sides ≡ map pos X.sides) where
+module _ {R : Type 0} (means : R → Rule) (X : Picture) (shelf : List (Named R)) (d : ℕ) (axes : length X.sides ≡ d) (sides : Point)
+    (given : sides ≡ map pos X.sides) where
   -- it was taken, and the rule of the entry that it names goes on
-  pub heading_taken : AreNames (names_of shelf) → (i : Given) (r : R) → slice_get (rules_of shelf) i.entry ≡ Some r → (s : Section) → rank s ≡ 1 → (text new : Option (List ℕ))
-      → IfTold text (λ bytes. TakesHeading d sides (names_of shelf) bytes new i) → HasCome (analysis (subject_of X (rules_on means shelf))) (BehindHeading (subject_of X (rules_on means shelf)) i.number (means r) s) text new 2
+  pub heading_taken : AreNames (names_of shelf) → (i : Given) (r : R) → slice_get (rules_of shelf) i.entry ≡ Some r → (s : Section) → rank s ≡ 1
+      → (text new : Option (List ℕ))
+      → IfTold text (λ bytes. TakesHeading d sides (names_of shelf) bytes new i)
+      → HasCome (analysis (subject_of X (rules_on means shelf))) (BehindHeading (subject_of X (rules_on means shelf)) i.number (means r) s) text new 2
   heading_taken apart i r there s one text new h = if_told text (λ t k.
-      subst (λ n. GoingOn (analysis (subject_of X (rules_on means shelf))) t new (BehindHeading (subject_of X (rules_on means shelf)) n (means r) s) 2) k.heading.number
-      (behind_heading (subject_of X (rules_on means shelf)) k.heading.heading (means r) (k.heading.sides_are ∙ given) (rule_there means shelf i.entry r k.heading.heading.rule there k.heading.there) (subst AreNames (sym (names_on means shelf)) apart) s one t new
+      subst (λ n. GoingOn (analysis (subject_of X (rules_on means shelf))) t new (BehindHeading (subject_of X (rules_on means shelf)) n (means r) s) 2)
+      k.heading.number
+      (behind_heading (subject_of X (rules_on means shelf)) k.heading.heading (means r) (k.heading.sides_are ∙ given)
+      (rule_there means shelf i.entry r k.heading.heading.rule there k.heading.there) (subst AreNames (sym (names_on means shelf)) apart) s one t new
       (subst (λ l. TakesClaim (length X.sides) t new l) k.heading.is (subst (λ e. TakesClaim e t new k.line) (sym axes) k.takes)))) h
 
   -- there is none
-  pub heading_missed : (text : Option (List ℕ)) → IfTold text (LacksHeading d sides (names_of shelf)) → IfTold text (λ t. FirstBad (subject_of X (rules_on means shelf)) t 1)
+  pub heading_missed : (text : Option (List ℕ)) → IfTold text (LacksHeading d sides (names_of shelf))
+      → IfTold text (λ t. FirstBad (subject_of X (rules_on means shelf)) t 1)
   heading_missed text h = if_told text (λ t k. no_heading (subject_of X (rules_on means shelf)) sides t given (rw (axes, names_on means shelf) k)) h
 
 -- ---- behind the heading, where a line comes
 
-module _ (X : Subject) (n : ℕ) (rule : Rule) (s : Section) (one : rank s ≡ 1) (lines : List Line) (l : Line) (ruled : IsRuledBy X (lines_of Section.Heading lines) n rule) where
+module _ (X : Subject) (n : ℕ) (rule : Rule) (s : Section) (one : rank s ≡ 1) (lines : List Line) (l : Line)
+    (ruled : IsRuledBy X (lines_of Section.Heading lines) n rule) where
   pub may_come : MayCome X s lines l
   may_come good = omega (arith, one, past_heading X lines l _ ruled.names.first_is good)
 
@@ -100,12 +115,15 @@ module _ (X : Subject) (n : ℕ) (rule : Rule) (s : Section) (one : rank s ≡ 1
 
 -- ---- bytes taken ahead, faults before
 
-pub checks_later : (X : Subject) (text : Option (List ℕ)) (before middle now : ℕ) (r : Answer) → before ≤ middle → Checks X text middle now r → Checks X text before now r
+pub checks_later : (X : Subject) (text : Option (List ℕ)) (before middle now : ℕ) (r : Answer) → before ≤ middle → Checks X text middle now r
+    → Checks X text before now r
 checks_later X text before middle now (Ok Yes) l h = h
 checks_later X text before middle now (Ok (No k)) l h = h
 checks_later X text before middle now (Err ReadFault) l h = omega (arith, h)
 checks_later X text before middle now (Err NoMemory) l h = tt
 
 -- little was taken of a text that no byte was taken ahead of
-pub few_ahead : (X : Subject) (ahead : List ℕ) (text left : Option (List ℕ)) → ahead ≡ [] → TakenAhead (ahead_of ahead text) left → IfTold text (λ t. TakesFew X t left)
-few_ahead X ahead text left e t = told_few (analysis X) (are_spelled (length X.picture.sides)) (λ ls. ⊤) 1 text text left (told_start (analysis X) text (λ ls. ⊤) tt) (subst (λ l. TakenAhead l left) (none_ahead ahead text e) t)
+pub few_ahead : (X : Subject) (ahead : List ℕ) (text left : Option (List ℕ)) → ahead ≡ [] → TakenAhead (ahead_of ahead text) left
+    → IfTold text (λ t. TakesFew X t left)
+few_ahead X ahead text left e t = told_few (analysis X) (are_spelled (length X.picture.sides)) (λ ls. ⊤) 1 text text left
+    (told_start (analysis X) text (λ ls. ⊤) tt) (subst (λ l. TakenAhead l left) (none_ahead ahead text e) t)

@@ -3,3 +3,4 @@ pub mod RowLaws
 pub mod OneLine
 pub mod FirstLine
 pub mod ThinningJudged
+pub mod Passed

@@ -24,5 +24,6 @@ same_counts X n o c m k d b counts r = (
 )
 
 -- the line of the counts is good where it gives those of the picture, which are what they are
-pub counts_given : (X : Picture) (n o c m k d : ℕ) (lines : List Line) (b : Bool) → Counts X n o c → lines ≡ [] → (IsTrue b ↔ ((m ≡ n) × (k ≡ o) × (d ≡ c))) → (IsTrue b ↔ ((lines ≡ []) × CountsClaim X (Line.Parts m k d)))
+pub counts_given : (X : Picture) (n o c m k d : ℕ) (lines : List Line) (b : Bool) → Counts X n o c → lines ≡ [] → (IsTrue b ↔ ((m ≡ n) × (k ≡ o) × (d ≡ c)))
+    → (IsTrue b ↔ ((lines ≡ []) × CountsClaim X (Line.Parts m k d)))
 counts_given X n o c m k d lines b counts none r = let h = same_counts X n o c m k d b counts r in (λ t. (none, h.0 t), λ claim. h.1 claim.1)

@@ -12,10 +12,12 @@ use Rattle.report_terms.proofs.SectionLaws.{rank_same, order_last, come_more, co
 use Rattle.shape_check.specs.Rows.{MayCome, HasReached, IsAt, RowFollows}
 
 -- what a row stands for, by whether its first section is past
-pub row_past : (X : Subject) (s t : Section) (is_past : Bool) (Stands : List Line → Type 0) (Waits : Type 0) (Rest : List Line → Type 0) (lines : List Line) → is_past ≡ true → RowFollows X s t is_past Stands Waits Rest lines → HasReached X t lines × Rest lines
+pub row_past : (X : Subject) (s t : Section) (is_past : Bool) (Stands : List Line → Type 0) (Waits : Type 0) (Rest : List Line → Type 0) (lines : List Line)
+    → is_past ≡ true → RowFollows X s t is_past Stands Waits Rest lines → HasReached X t lines × Rest lines
 row_past X s t is_past Stands Waits Rest lines e f = subst (λ b. RowFollows X s t b Stands Waits Rest lines) e f
 
-pub row_first : (X : Subject) (s t : Section) (is_past : Bool) (Stands : List Line → Type 0) (Waits : Type 0) (Rest : List Line → Type 0) (lines : List Line) → is_past ≡ false → RowFollows X s t is_past Stands Waits Rest lines → IsAt X s Stands lines × Waits
+pub row_first : (X : Subject) (s t : Section) (is_past : Bool) (Stands : List Line → Type 0) (Waits : Type 0) (Rest : List Line → Type 0) (lines : List Line)
+    → is_past ≡ false → RowFollows X s t is_past Stands Waits Rest lines → IsAt X s Stands lines × Waits
 row_first X s t is_past Stands Waits Rest lines e f = subst (λ b. RowFollows X s t b Stands Waits Rest lines) e f
 
 -- both facts of an answer, where it is true
@@ -34,15 +36,18 @@ module _ {E : Type 0} (X : Subject) (s : Section) (lines : List Line) (l : Line)
     reached g = record { next = λ k h. omega (arith, order_last (section_of k) lines l h.come.order, may g) }
 
     -- the rest of the row stands for the line, where it is good
-    pub rest_follows : (New : List Line → Type 0) → IfOk answer (λ b. IsTrue b ↔ GoodAfter X lines l) → IfOk answer (λ b. OnTrue b (New (lines ++ l ∷ []))) → IfOk answer (λ b. OnTrue b (HasReached X s (lines ++ l ∷ []) × New (lines ++ l ∷ [])))
+    pub rest_follows : (New : List Line → Type 0) → IfOk answer (λ b. IsTrue b ↔ GoodAfter X lines l) → IfOk answer (λ b. OnTrue b (New (lines ++ l ∷ [])))
+        → IfOk answer (λ b. OnTrue b (HasReached X s (lines ++ l ∷ []) × New (lines ++ l ∷ [])))
     rest_follows New a f = both _ _ _ answer a f reached
 
   -- the line is of the section that the lines have come to
   module _ (Stands : List Line → Type 0) (at : IsAt X s Stands lines) (e : section_of l ≡ s) where
-    pub first_answer : IfOk answer (λ b. IsTrue b ↔ SectionClaim X (lines_of Section.Heading lines) s (lines_of s lines) l) → IfOk answer (λ b. IsTrue b ↔ GoodAfter X lines l)
+    pub first_answer : IfOk answer (λ b. IsTrue b ↔ SectionClaim X (lines_of Section.Heading lines) s (lines_of s lines) l)
+        → IfOk answer (λ b. IsTrue b ↔ GoodAfter X lines l)
     first_answer a = IfOk-weaker answer _ _ (λ b h. (λ t. good_at X s lines l at.come e (h.0 t), λ g. h.1 (claim_at X s lines l e g))) a
 
-    pub first_follows : (New : List Line → Type 0) (Waits : Type 0) → Waits → IfOk answer (λ b. OnTrue b (New (lines_of s lines ++ l ∷ []))) → IfOk answer (λ b. OnTrue b (IsAt X s New (lines ++ l ∷ []) × Waits))
+    pub first_follows : (New : List Line → Type 0) (Waits : Type 0) → Waits → IfOk answer (λ b. OnTrue b (New (lines_of s lines ++ l ∷ [])))
+        → IfOk answer (λ b. OnTrue b (IsAt X s New (lines ++ l ∷ []) × Waits))
     first_follows New Waits w f = IfOk-weaker answer _ _ (λ b h. OnTrue_from b (IsAt X s New (lines ++ l ∷ []) × Waits) (λ t. (
       record {
         come = come_more X s lines l at.come e;
@@ -59,4 +64,5 @@ module _ (X : Subject) (s t : Section) (lines : List Line) (l : Line) (Stands Re
 
   -- a good line of another section is of the next one or later
   pub may_follow : MayCome X t lines l
-  may_follow = λ g. elim (cases_lt (rank s) (rank (section_of l))) [ inl h ↦ omega (arith, next, h) | inr h ↦ absurd (n (rank_same (section_of l) s (omega (arith, h, m g)))) ]
+  may_follow = λ g. elim (cases_lt (rank s) (rank (section_of l)))
+      [ inl h ↦ omega (arith, next, h) | inr h ↦ absurd (n (rank_same (section_of l) s (omega (arith, h, m g)))) ]

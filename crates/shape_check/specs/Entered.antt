@@ -12,6 +12,7 @@ pub row_entered : (X : Subject) (s t : Section) (is_past : Bool) (Stands : List 
 row_entered X s t false Stands Waits Rest lines f a w h e = (record { come = h; stands = subst Stands (sym e) a }, w)
 row_entered X s t true Stands Waits Rest lines f a w h e = absurd (both_ways true f refl)
 
-pub end_entered : (X : Subject) (ended : Bool) (lines : List Line) → ended ≡ false → HasCome X Section.End lines → lines_of Section.End lines ≡ [] → EndFollows X ended lines
+pub end_entered : (X : Subject) (ended : Bool) (lines : List Line) → ended ≡ false → HasCome X Section.End lines → lines_of Section.End lines ≡ []
+    → EndFollows X ended lines
 end_entered X false lines f h e = (h, e)
 end_entered X true lines f h e = absurd (both_ways true f refl)

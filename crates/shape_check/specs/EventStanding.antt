@@ -1,9 +1,9 @@
 -- What a judge stands for: the events that it has taken.
--- How a thinning holds them is told by `thin_steps`.
+-- How a thinning holds them is told by `shape_thin`.
 use Rattle.std.specs.Prelude.{ℕ, List}
 use Rattle.shape_terms.specs.Pictures.{Picture}
 use Rattle.shape_terms.specs.Thinning.{Rule, Event}
-use Rattle.thin_steps.specs.Standing as Steps
+use Rattle.shape_thin.specs.Standing as Steps
 use Rattle.shape_check.specs.declared.events.ThinJudge.{ThinJudge}
 
 module _ {P : Type 0} {pairs : _} {point : _} {eq : _} {order : _} {partial : _} where

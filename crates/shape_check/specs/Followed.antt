@@ -15,7 +15,8 @@ HasFollowed false Follows opening now events = (events ≡ []) × Follows [] ope
 HasFollowed true Follows opening now events = Follows events now
 
 -- the picture has a value for each point, and these components; its events were followed so far, and the `kept` line was taken or not
-pub record Thins (X : Picture) (by : Rule) (Follows : List Event → List ℕ → Type 0) (begun kept : Bool) (object background : ℕ) (now : List ℕ) (lines : List Line) : Type 0 where
+pub record Thins (X : Picture) (by : Rule) (Follows : List Event → List ℕ → Type 0) (begun kept : Bool) (object background : ℕ) (now : List ℕ)
+    (lines : List Line) : Type 0 where
   pub filled : length X.values ≡ box_count X.sides
   pub points : ℕ
   pub counts : Counts X points object background

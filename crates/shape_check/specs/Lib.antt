@@ -5,3 +5,4 @@ pub mod Going
 pub mod Heading
 pub mod Followed
 pub mod Checks
+pub mod Coming

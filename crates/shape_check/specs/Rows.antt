@@ -30,8 +30,10 @@ pub record IsAt (X : Subject) (s : Section) (Stands : List Line → Type 0) (lin
   pub come : HasCome X s lines
   pub stands : Stands (lines_of s lines)
 
--- a judge of the section s stands for these lines of it and the rest of the row waits; or the section is past, and the rest, from the section t on, stands for all lines
-abbrev pub RowFollows : Subject → (s t : Section) → (is_past : Bool) → (Stands : List Line → Type 0) → (Waits : Type 0) → (Rest : List Line → Type 0) → List Line → Type 0
+-- a judge of the section s stands for these lines of it and the rest of the row waits; or the section is past, and the rest, from the section t on, stands for
+-- all lines
+abbrev pub RowFollows : Subject → (s t : Section) → (is_past : Bool) → (Stands : List Line → Type 0) → (Waits : Type 0) → (Rest : List Line → Type 0)
+    → List Line → Type 0
 RowFollows X s t false Stands Waits Rest lines = IsAt X s Stands lines × Waits
 RowFollows X s t true Stands Waits Rest lines = HasReached X t lines × Rest lines
 

@@ -11,10 +11,11 @@ ghost use Rattle.shape_rules.specs.Ruled.{rules_on};
 ghost use Rattle.shape_check.specs.Checks.{HasChecked};
 ghost use Rattle.shape_check.specs.Going.{BehindHeading};
 
+use crate::coming::{Coming, next_line};
 use crate::heading::find_heading;
 use crate::judges::{Judges, Row};
 use crate::whole::{Flat, Solid};
-use report_text::{CheckFault, Judgement, NextText, ReportLine, next_text};
+use report_text::{CheckFault, Judgement};
 use shape_desk::{Desk, LineReader};
 use shape_grid::Grid;
 use shape_report::Line;
@@ -40,19 +41,17 @@ fn check_lines<P: Point, R: Row<P>, D: Desk>(
     ensures same_rule { means rule.new ≡ means rule.old }
 {
     let mut line: u64 = 2;
+    let mut claim = Line::End;
     'lines: loop {
-        match next_text::<Line<P>, D>(reader, desk)? {
-            NextText::Line => match &Line::<P>::read(reader.line()) {
-                Some(claim) => {
-                    if !row.take(claim, rule)? {
-                        return Ok(Judgement::No { line });
-                    }
-                    line += 1;
+        match next_line::<P, D>(reader, desk, &mut claim)? {
+            Coming::Claim => {
+                if !row.take(&claim, rule)? {
+                    return Ok(Judgement::No { line });
                 }
-                None => return Ok(Judgement::No { line }),
-            },
-            NextText::Bad => return Ok(Judgement::No { line }),
-            NextText::End => {
+                line += 1;
+            }
+            Coming::Bad => return Ok(Judgement::No { line }),
+            Coming::End => {
                 if row.has_ended() {
                     return Ok(Judgement::Yes);
                 }

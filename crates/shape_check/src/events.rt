@@ -1,5 +1,5 @@
 //! The judge: it follows the thinning of a picture, one event after the other.
-//! Which point is next belongs to `thin_steps`; what an end is belongs to the rule.
+//! Which point is next belongs to `shape_thin`; what an end is belongs to the rule.
 ghost use Rattle.std.specs.Prelude.{◌≡◌, ◌<◌, ◌↔◌, [], ◌∷◌, ◌++◌, ℕ, List, length, IsTrue, IfOk};
 ghost use Rattle.std.specs.Bool.{OnTrue};
 ghost use Rattle.shape_terms.specs.Pictures.{Picture, object_points};
@@ -13,11 +13,11 @@ use shape_cells::Cells;
 use shape_grid::Grid;
 use shape_rules::EndRule;
 use shape_space::NoMemory;
+use shape_thin::Thinner;
 use shape_topo::SimpleMask;
 use std::alloc::Global;
 use std::marker::Brand;
 use std::sync::ledger::Blank;
-use thin_steps::Thinner;
 
 /// A judge of the events of one picture's thinning, as they come.
 ///

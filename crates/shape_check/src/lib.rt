@@ -1,8 +1,9 @@
 //! The checker: whether a report holds of a picture, and else which of its lines is the first bad one.
-//! It goes through the report line by line, follows the thinning with `thin_steps`, and stands on no crate that analyses pictures or lists events.
+//! It goes through the report line by line, follows the thinning by the steps of `shape_thin`, and asks nothing that analyses pictures or lists events.
 #![tactic(auto)]
 
 mod check;
+mod coming;
 mod counts;
 mod end;
 mod events;

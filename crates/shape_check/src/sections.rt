@@ -4,9 +4,8 @@ ghost use Rattle.std.specs.Prelude.{◌≡◌};
 ghost use Rattle.report_terms.specs.Sections.{Section};
 
 use crate::judges::SectionJudge;
-use judge_cover::CoverJudge;
 use judge_field::FieldJudge;
-use judge_plane::PlaneJudge;
+use judge_outline::{CoverJudge, PlaneJudge};
 use shape_report::Line;
 use shape_rules::EndRule;
 use shape_space::{NoMemory, P2, P3, Point};
@@ -34,7 +33,7 @@ impl<P: Point> SectionJudge<P> for FieldJudge<P> {
 }
 
 impl SectionJudge<P2> for CoverJudge {
-    ghost use Rattle.judge_cover.specs.CoverState.{StandsFor, room_of};
+    ghost use Rattle.judge_outline.specs.CoverState.{StandsFor, room_of};
 
     ghost section = { Section.Contours };
 
@@ -56,7 +55,7 @@ impl SectionJudge<P2> for CoverJudge {
 }
 
 impl SectionJudge<P3> for PlaneJudge {
-    ghost use Rattle.judge_plane.specs.PlaneState.{StandsFor, room_of};
+    ghost use Rattle.judge_outline.specs.PlaneState.{StandsFor, room_of};
 
     ghost section = { Section.Faces };
 

@@ -1,18 +1,18 @@
 //! The steps of a thinning where nobody asks how many points they test: the counter ends with the call.
-//! What a step does belongs to `thin_steps`.
+//! What a step does belongs to `shape_thin`.
 ghost use Rattle.std.specs.Prelude.{◌≡◌, ◌+◌, [], length, IfOk};
 ghost use Rattle.shape_terms.specs.Pictures.{object_points};
 ghost use Rattle.shape_terms.specs.Thinning.{Rule};
 ghost use Rattle.shape_terms.specs.Distances.{AreDistances};
-ghost use Rattle.thin_steps.specs.Standing.{StandsFor, room_of, IsNextOf, GoesOn};
+ghost use Rattle.shape_thin.specs.Standing.{StandsFor, room_of, IsNextOf, GoesOn};
 
 use shape_cells::Cells;
 use shape_grid::Grid;
 use shape_space::{NoMemory, Steps};
+use shape_thin::{Next, Thinner};
 use shape_topo::SimpleMask;
 use std::alloc::Global;
 use std::sync::ledger::{Blank, Ledger};
-use thin_steps::{Next, Thinner};
 
 // A thinning before its first event.
 pub(crate) fn begun<P: SimpleMask, L: Ledger>(

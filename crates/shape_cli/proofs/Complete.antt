@@ -31,7 +31,8 @@ module _ (shelf : List (Named Rule)) where
   has_none (Asked.Check source kind report) files f s h = not_faulty files source f s h
   has_none (Asked.Trial kind seed side) files f s h = h
 
-  pub answers : (c : Asked) (old new : DeskState) (o : Outcome) → Ran shelf c old new o → IfSource c (FindsSome old.files) → FindsRest c old.files → HasNoFault old new → IsAnswer c o ⊎ (o ≡ outcome.NoMemory)
+  pub answers : (c : Asked) (old new : DeskState) (o : Outcome) → Ran shelf c old new o → IfSource c (FindsSome old.files) → FindsRest c old.files
+      → HasNoFault old new → IsAnswer c o ⊎ (o ≡ outcome.NoMemory)
   answers c old new outcome.NoMemory r s t h = inr refl
   answers c old new outcome.Usage r s t h = absurd r
   answers c old new outcome.WriteFault r s t h = absurd (h.write r.cause)
@@ -56,7 +57,8 @@ module _ (shelf : List (Named Rule)) where
   not_without (Asked.Check source kind report) files f h (inr m) = not_picture files source f m.1.0 h m.1.1
   not_without (Asked.Trial kind seed side) files f h m = m
 
-  not_told : (c : Asked) (files : Option Files) (f : PictureFault) (o : Outcome) (text : List ℕ) → OfSource c (λ source. FindsFault files source f) → Answers shelf c files o text → ⊥
+  not_told : (c : Asked) (files : Option Files) (f : PictureFault) (o : Outcome) (text : List ℕ) → OfSource c (λ source. FindsFault files source f)
+      → Answers shelf c files o text → ⊥
   not_told (Asked.Make source wanted) files f outcome.Done text h a = not_picture files source f a.0 h a.1
   not_told (Asked.Check source kind report) files f outcome.Yes text h a = not_picture files source f a.1.0 h a.1.1
   not_told (Asked.Check source kind report) files f (outcome.No k) text h a = not_picture files source f a.1.0 h a.1.1
@@ -64,12 +66,14 @@ module _ (shelf : List (Named Rule)) where
   not_told (Asked.Check source kind report) files f _ text h a = absurd a
   not_told (Asked.Trial kind seed side) files f o text h a = absurd h
 
-  the_fault : (c : Asked) (files : Option Files) (f g : PictureFault) → OfSource c (λ source. FindsFault files source f) → OfSource c (λ source. IsFaultOf files source g) → g ≡ f
+  the_fault : (c : Asked) (files : Option Files) (f g : PictureFault) → OfSource c (λ source. FindsFault files source f)
+      → OfSource c (λ source. IsFaultOf files source g) → g ≡ f
   the_fault (Asked.Make source wanted) files f g h k = its_fault files source f g h k
   the_fault (Asked.Check source kind report) files f g h k = its_fault files source f g h k
   the_fault (Asked.Trial kind seed side) files f g h k = absurd h
 
-  pub refuses : (c : Asked) (old new : DeskState) (o : Outcome) (f : PictureFault) → Ran shelf c old new o → OfSource c (λ source. FindsFault old.files source f) → (Rose old.read_faults new.read_faults → ⊥) → (o ≡ outcome.Picture f) ⊎ (o ≡ outcome.NoMemory)
+  pub refuses : (c : Asked) (old new : DeskState) (o : Outcome) (f : PictureFault) → Ran shelf c old new o
+      → OfSource c (λ source. FindsFault old.files source f) → (Rose old.read_faults new.read_faults → ⊥) → (o ≡ outcome.Picture f) ⊎ (o ≡ outcome.NoMemory)
   refuses c old new outcome.NoMemory f r h n = inr refl
   refuses c old new outcome.Usage f r h n = absurd r
   refuses c old new (outcome.Picture g) f r h n = inl (ap (λ x. outcome.Picture x) (the_fault c old.files f g h r.0))
@@ -112,34 +116,42 @@ module _ (shelf : List (Named Rule)) where
 
   module _ (source : Source) (kind : ReportKind) (report : List ℕ) (X : Picture) (old new : DeskState) where
     -- the answer of a check whose report is there
-    judged : (P : List ℕ → Type 0) (o : Outcome) → Ran shelf (Asked.Check source kind report) old new o → FindsPicture old.files source X → FileIs old.files report P → HasNoFault old new → IsAnswer (Asked.Check source kind report) o ⊎ (o ≡ outcome.NoMemory)
+    judged : (P : List ℕ → Type 0) (o : Outcome) → Ran shelf (Asked.Check source kind report) old new o → FindsPicture old.files source X
+        → FileIs old.files report P → HasNoFault old new → IsAnswer (Asked.Check source kind report) o ⊎ (o ≡ outcome.NoMemory)
     judged P o r p h n = answers (Asked.Check source kind report) old new o r (finds_some old.files source X p) (is_there old.files report P h) n
 
-    holds_no : (k : ℕ) (text : List ℕ) → Answers shelf (Asked.Check source kind report) old.files (outcome.No k) text → FindsPicture old.files source X → FileIs old.files report (Holds (report_of shelf kind X)) → ⊥
+    holds_no : (k : ℕ) (text : List ℕ) → Answers shelf (Asked.Check source kind report) old.files (outcome.No k) text → FindsPicture old.files source X
+        → FileIs old.files report (Holds (report_of shelf kind X)) → ⊥
     holds_no k text a p h =
         let e = its_picture old.files source X a.1.0 p a.1.1 in
         let m = meet old.files report (Holds (report_of shelf kind X)) (λ bytes. FirstBad (report_of shelf kind a.1.0) bytes k) h a.1.2 in
         m.2.fails (subst (λ Y. Holds (report_of shelf kind Y) m.0) e m.1)
 
-    pub yes : (o : Outcome) → Ran shelf (Asked.Check source kind report) old new o → FindsPicture old.files source X → FileIs old.files report (Holds (report_of shelf kind X)) → HasNoFault old new → (o ≡ outcome.Yes) ⊎ (o ≡ outcome.NoMemory)
+    pub yes : (o : Outcome) → Ran shelf (Asked.Check source kind report) old new o → FindsPicture old.files source X
+        → FileIs old.files report (Holds (report_of shelf kind X)) → HasNoFault old new → (o ≡ outcome.Yes) ⊎ (o ≡ outcome.NoMemory)
     yes o r p h n = by_answer o r (judged (Holds (report_of shelf kind X)) o r p h n)
       where
-        by_answer : (o : Outcome) → Ran shelf (Asked.Check source kind report) old new o → IsAnswer (Asked.Check source kind report) o ⊎ (o ≡ outcome.NoMemory) → (o ≡ outcome.Yes) ⊎ (o ≡ outcome.NoMemory)
+        by_answer : (o : Outcome) → Ran shelf (Asked.Check source kind report) old new o → IsAnswer (Asked.Check source kind report) o ⊎ (o ≡ outcome.NoMemory)
+            → (o ≡ outcome.Yes) ⊎ (o ≡ outcome.NoMemory)
         by_answer o r (inr e) = inr e
         by_answer outcome.Yes r (inl a) = inl refl
         by_answer (outcome.No k) r (inl a) = absurd (holds_no k r.text r.right p h)
         by_answer _ r (inl a) = absurd a
 
-    fails_yes : (text : List ℕ) → Answers shelf (Asked.Check source kind report) old.files outcome.Yes text → FindsPicture old.files source X → FileIs old.files report (λ bytes. Holds (report_of shelf kind X) bytes → ⊥) → ⊥
+    fails_yes : (text : List ℕ) → Answers shelf (Asked.Check source kind report) old.files outcome.Yes text → FindsPicture old.files source X
+        → FileIs old.files report (λ bytes. Holds (report_of shelf kind X) bytes → ⊥) → ⊥
     fails_yes text a p h =
         let e = its_picture old.files source X a.1.0 p a.1.1 in
         let m = meet old.files report (λ bytes. Holds (report_of shelf kind X) bytes → ⊥) (IsRightReport shelf kind a.1.0) h a.1.2 in
         m.1 (subst (λ Y. Holds (report_of shelf kind Y) m.0) (sym e) m.2.0)
 
-    pub no : (o : Outcome) → Ran shelf (Asked.Check source kind report) old new o → FindsPicture old.files source X → FileIs old.files report (λ bytes. Holds (report_of shelf kind X) bytes → ⊥) → HasNoFault old new → ((k : ℕ) × (o ≡ outcome.No k)) ⊎ (o ≡ outcome.NoMemory)
+    pub no : (o : Outcome) → Ran shelf (Asked.Check source kind report) old new o → FindsPicture old.files source X
+        → FileIs old.files report (λ bytes. Holds (report_of shelf kind X) bytes → ⊥) → HasNoFault old new
+        → ((k : ℕ) × (o ≡ outcome.No k)) ⊎ (o ≡ outcome.NoMemory)
     no o r p h n = by_answer o r (judged (λ bytes. Holds (report_of shelf kind X) bytes → ⊥) o r p h n)
       where
-        by_answer : (o : Outcome) → Ran shelf (Asked.Check source kind report) old new o → IsAnswer (Asked.Check source kind report) o ⊎ (o ≡ outcome.NoMemory) → ((k : ℕ) × (o ≡ outcome.No k)) ⊎ (o ≡ outcome.NoMemory)
+        by_answer : (o : Outcome) → Ran shelf (Asked.Check source kind report) old new o → IsAnswer (Asked.Check source kind report) o ⊎ (o ≡ outcome.NoMemory)
+            → ((k : ℕ) × (o ≡ outcome.No k)) ⊎ (o ≡ outcome.NoMemory)
         by_answer o r (inr e) = inr e
         by_answer outcome.Yes r (inl a) = absurd (fails_yes r.text r.right p h)
         by_answer (outcome.No k) r (inl a) = inl (k, refl)

@@ -24,7 +24,10 @@ weaker None P Q f h = tt
 weaker (Some bytes) P Q f h = f bytes h
 
 -- what the check of a file's report tells of the file
-pub judged : (shelf : List (Named Rule)) (kind : ReportKind) (X : Picture) (report : List ℕ) (old mid new : DeskState) (r : Result Judgement CheckFault) → IsAtFront old.files report (mid.left Report) → old.read_faults ≤ mid.read_faults → ((bytes : List ℕ) → Holds (report_of shelf kind X) bytes → ShowsOf shelf kind X bytes) → HasChecked (report_of shelf kind X) (mid.left Report) mid new r → Judged shelf kind X report old new r
+pub judged : (shelf : List (Named Rule)) (kind : ReportKind) (X : Picture) (report : List ℕ) (old mid new : DeskState) (r : Result Judgement CheckFault)
+    → IsAtFront old.files report (mid.left Report) → old.read_faults ≤ mid.read_faults
+    → ((bytes : List ℕ) → Holds (report_of shelf kind X) bytes → ShowsOf shelf kind X bytes) → HasChecked (report_of shelf kind X) (mid.left Report) mid new r
+    → Judged shelf kind X report old new r
 judged shelf kind X report old mid new (Ok judgement.Yes) a l shown h = record {
   counted = tt;
   right = of_file old.files report (mid.left Report) _ a (weaker (mid.left Report) (Holds (report_of shelf kind X)) _ (λ bytes k. (k, shown bytes k)) h.answer);

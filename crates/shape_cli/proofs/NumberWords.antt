@@ -21,8 +21,10 @@ same : (word : List ℕ) (z : ℤ) (n : ℕ) → FitsSigned w64 z → n < 2 ^ 32
 same word (pos k) n f h s e = ap pos (decimal_injective k n (omega (arith, f.sfits)) (omega (arith, h)) (sym s ∙ e))
 same word (negsuc k) n f h s e = absurd (no_minus (decimal n) (decimal (suc k)) (decimal_is_IsNumeral n (omega (arith, h))).0.1 (sym e ∙ s))
 
-pub too_small : (least most : ℕ) (word : List ℕ) (z : ℤ) → most < 2 ^ 32 → FitsSigned w64 z → word ≡ signed_decimal z → z <ℤ pos least → IsNoNumber least most word
+pub too_small : (least most : ℕ) (word : List ℕ) (z : ℤ) → most < 2 ^ 32 → FitsSigned w64 z → word ≡ signed_decimal z → z <ℤ pos least
+    → IsNoNumber least most word
 too_small least most word z m f s less n l h e = let q = same word z n f (omega (arith, m, h)) s e in omega (arith, ints, q, less, l)
 
-pub too_large : (least most : ℕ) (word : List ℕ) (z : ℤ) → most < 2 ^ 32 → FitsSigned w64 z → word ≡ signed_decimal z → pos most <ℤ z → IsNoNumber least most word
+pub too_large : (least most : ℕ) (word : List ℕ) (z : ℤ) → most < 2 ^ 32 → FitsSigned w64 z → word ≡ signed_decimal z → pos most <ℤ z
+    → IsNoNumber least most word
 too_large least most word z m f s more n l h e = let q = same word z n f (omega (arith, m, h)) s e in omega (arith, ints, q, more, h)

@@ -35,7 +35,8 @@ record SameWanted (s t : Source) (w v : Wanted) : Type 0 where
   source : s ≡ t
   wanted : w ≡ v
 
-same_wanted : (s t : Source) (w v : Wanted) → kind_of w ≡ kind_of v → HasSides s → HasSides t → source_words s ++ last_words w ≡ source_words t ++ last_words v → SameWanted s t w v
+same_wanted : (s t : Source) (w v : Wanted) → kind_of w ≡ kind_of v → HasSides s → HasSides t → source_words s ++ last_words w ≡ source_words t ++ last_words v
+    → SameWanted s t w v
 same_wanted s t (Wanted.Analysis rule) (Wanted.Analysis rule') k h i e =
     let p = same_source s t (rule ∷ []) (rule' ∷ []) refl h i e in
     let n : rule ≡ rule' = (let l = p.rest in cc) in
@@ -90,13 +91,16 @@ numbers_in_range names (Asked.Make source wanted) i = i.0
 numbers_in_range names (Asked.Check source kind report) i = i.0
 numbers_in_range names (Asked.Trial kind seed side) i = i
 
-pub ran : (shelf : List (Named Rule)) (words : List (List ℕ)) (old new : DeskState) (o : Outcome) (c : Asked) → HasRun shelf words old new o → IsInRange (names_of shelf) c → words ≡ words_of c → Ran shelf c old new o
+pub ran : (shelf : List (Named Rule)) (words : List (List ℕ)) (old new : DeskState) (o : Outcome) (c : Asked) → HasRun shelf words old new o
+    → IsInRange (names_of shelf) c → words ≡ words_of c → Ran shelf c old new o
 ran shelf words old new o c h i e = by_form h.ran
   where
     by_form : Asks (names_of shelf) words (λ d. Ran shelf d old new o) ⊎ IsNoForm (names_of shelf) words → Ran shelf c old new o
-    by_form (inl a) = subst (λ d. Ran shelf d old new o) (one a.command c (numbers_in_range (names_of shelf) a.command a.in_range) (numbers_in_range (names_of shelf) c i) (sym a.spelled ∙ e)) a.holds
+    by_form (inl a) = subst (λ d. Ran shelf d old new o)
+        (one a.command c (numbers_in_range (names_of shelf) a.command a.in_range) (numbers_in_range (names_of shelf) c i) (sym a.spelled ∙ e)) a.holds
     by_form (inr n) = absurd (n c i e)
 
 -- a command that was run is a form, and its outcome is not `Usage`
-pub form_run : (shelf : List (Named Rule)) (names words : List (List ℕ)) (old new : DeskState) (o : Outcome) → Asks names words (λ c. Ran shelf c old new o) → (o ≡ outcome.Usage) ↔ IsNoForm names words
+pub form_run : (shelf : List (Named Rule)) (names words : List (List ℕ)) (old new : DeskState) (o : Outcome) → Asks names words (λ c. Ran shelf c old new o)
+    → (o ≡ outcome.Usage) ↔ IsNoForm names words
 form_run shelf names words old new o a = (λ e. absurd (subst (Ran shelf a.command old new) e a.holds), λ n. absurd (n a.command a.in_range a.spelled))

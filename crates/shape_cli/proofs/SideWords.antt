@@ -35,7 +35,8 @@ pub record SameSides (a b c x y z : ℕ) : Type 0 where
   pub second : b ≡ y
   pub third : c ≡ z
 
-pub same_sides : (a b c x y z : ℕ) → AreSides (pos most_solid) (pos a ∷ pos b ∷ pos c ∷ []) → AreSides (pos most_solid) (pos x ∷ pos y ∷ pos z ∷ []) → decimal a ≡ decimal x → decimal b ≡ decimal y → decimal c ≡ decimal z → SameSides a b c x y z
+pub same_sides : (a b c x y z : ℕ) → AreSides (pos most_solid) (pos a ∷ pos b ∷ pos c ∷ []) → AreSides (pos most_solid) (pos x ∷ pos y ∷ pos z ∷ [])
+    → decimal a ≡ decimal x → decimal b ≡ decimal y → decimal c ≡ decimal z → SameSides a b c x y z
 same_sides a b c x y z h k f g i =
     let p = three (pos a) (pos b) (pos c) h in
     let q = three (pos x) (pos y) (pos z) k in
@@ -50,7 +51,8 @@ positive : (x : ℤ) → pos 1 ≤ℤ x → pos (nat_abs x) ≡ x
 positive (pos n) l = refl
 positive (negsuc n) l = absurd (omega (arith, ints))
 
-pub natural_sides : (x y z : ℤ) → AreSides (pos most_solid) (x ∷ y ∷ z ∷ []) → AreSides (pos most_solid) (pos (nat_abs x) ∷ pos (nat_abs y) ∷ pos (nat_abs z) ∷ [])
+pub natural_sides : (x y z : ℤ) → AreSides (pos most_solid) (x ∷ y ∷ z ∷ [])
+    → AreSides (pos most_solid) (pos (nat_abs x) ∷ pos (nat_abs y) ∷ pos (nat_abs z) ∷ [])
 natural_sides x y z h =
     let p = three x y z h in
     rw (positive x p.first.0, positive y p.second.0, positive z p.third.0) h
@@ -66,7 +68,8 @@ from_field : (word : List ℕ) (r : Option ℤ) → ReadsField (λ y. y) (FitsSi
 from_field word None n = λ z f k. n z [] f (ap (λ (w : List ℕ). w ∷ []) k)
 from_field word (Some z) h = let e = h.split in (h.range, cc)
 
-pub read_coordinate : {E : Type 0} (word : List ℕ) (z v : ℤ) (t : Result ℤ E) → FitsSigned w64 z → word ≡ signed_decimal z → v ≡ z → OkIff t (FitsSigned w32 v) v → ReadsCoordinate word (result_ok t)
+pub read_coordinate : {E : Type 0} (word : List ℕ) (z v : ℤ) (t : Result ℤ E) → FitsSigned w64 z → word ≡ signed_decimal z → v ≡ z
+    → OkIff t (FitsSigned w32 v) v → ReadsCoordinate word (result_ok t)
 read_coordinate word z v t f s e o = from_field word (result_ok t) (read_short (word ∷ []) [] word z v t refl f s e o)
 
 fits : (n : ℕ) → pos n ≤ℤ pos most_solid → FitsSigned w32 (pos n)
@@ -93,9 +96,11 @@ same_number y z f g e = signed_decimal_injective y z (near y f) (near z g) e
 spelled_by : (x : List ℕ) (u : ℤ) → pos 1 ≤ℤ u → x ≡ signed_decimal u → x ≡ decimal (nat_abs u)
 spelled_by x u l e = e ∙ ap signed_decimal (sym (positive u l))
 
-pub three_read : {S P : Type 0} (lengths : S → P) (cx cy cz : P → ℤ) (p : P) (r : Option S) (x y z : List ℕ) (u v w : ℤ) → IfSome r (λ s. lengths s ≡ p) → IsSome r ↔ AreSides (pos most_solid) (cx p ∷ cy p ∷ cz p ∷ []) → cx p ≡ u → cy p ≡ v → cz p ≡ w
+pub three_read : {S P : Type 0} (lengths : S → P) (cx cy cz : P → ℤ) (p : P) (r : Option S) (x y z : List ℕ) (u v w : ℤ) → IfSome r (λ s. lengths s ≡ p)
+    → IsSome r ↔ AreSides (pos most_solid) (cx p ∷ cy p ∷ cz p ∷ []) → cx p ≡ u → cy p ≡ v → cz p ≡ w
     → ReadsCoordinate x (Some u) → ReadsCoordinate y (Some v) → ReadsCoordinate z (Some w)
-    → MatchOption r (IsNoSides (x ∷ y ∷ z ∷ [])) (λ s. x ∷ y ∷ z ∷ [] ≡ side_words (nat_abs (cx (lengths s))) (nat_abs (cy (lengths s))) (nat_abs (cz (lengths s))))
+    → MatchOption r (IsNoSides (x ∷ y ∷ z ∷ []))
+    (λ s. x ∷ y ∷ z ∷ [] ≡ side_words (nat_abs (cx (lengths s))) (nat_abs (cy (lengths s))) (nat_abs (cz (lengths s))))
 three_read {S = S} lengths cx cy cz p None x y z u v w g e ex ey ez f h i = λ a b c k l.
     let t = three (pos a) (pos b) (pos c) k in
     let mx : x ≡ decimal a = cc in
@@ -115,7 +120,8 @@ three_read lengths cx cy cz p (Some s) x y z u v w g e ex ey ez f h i =
 
 -- ---- the words of a volume
 
-pub no_volume : (kind x y z file : List ℕ) (words : List (List ℕ)) → words ≡ x ∷ y ∷ z ∷ file ∷ [] → IsNoSides (x ∷ y ∷ z ∷ []) → (s : Source) → HasSides s → kind ∷ words ≡ source_words s → ⊥
+pub no_volume : (kind x y z file : List ℕ) (words : List (List ℕ)) → words ≡ x ∷ y ∷ z ∷ file ∷ [] → IsNoSides (x ∷ y ∷ z ∷ []) → (s : Source) → HasSides s
+    → kind ∷ words ≡ source_words s → ⊥
 no_volume kind x y z file words w n (Source.Pbm f) h e = let l = ap length e in let m = ap length w in omega arith
 no_volume kind x y z file words w n (Source.Raw a b c f) h e =
     let i : x ≡ decimal a = cc in

@@ -10,7 +10,8 @@ pub record SameSource (s t : Source) (more more' : List (List ℕ)) : Type 0 whe
   pub source : s ≡ t
   pub rest : more ≡ more'
 
-pub same_source : (s t : Source) (more more' : List (List ℕ)) → length more ≡ length more' → HasSides s → HasSides t → source_words s ++ more ≡ source_words t ++ more' → SameSource s t more more'
+pub same_source : (s t : Source) (more more' : List (List ℕ)) → length more ≡ length more' → HasSides s → HasSides t
+    → source_words s ++ more ≡ source_words t ++ more' → SameSource s t more more'
 same_source (Source.Pbm f) (Source.Pbm g) more more' l h k e = record { source = (let n : f ≡ g = cc in rw n refl); rest = cc }
 same_source (Source.Raw a b c f) (Source.Raw x y z g) more more' l h k e =
     let i : decimal a ≡ decimal x = cc in

@@ -57,7 +57,8 @@ its_picture files source X Y p q =
     let m = meet files (file_of source) (Spells source X) (Spells source Y) p q in
     (format_is source).one_picture X Y m.0 m.1 m.2
 
-some_bytes : (source : Source) (X : Picture) (o : Option (List ℕ)) → MatchOption o ⊥ (Spells source X) → MatchOption o ⊥ (λ bytes. (Y : Picture) × Spells source Y bytes)
+some_bytes : (source : Source) (X : Picture) (o : Option (List ℕ)) → MatchOption o ⊥ (Spells source X)
+    → MatchOption o ⊥ (λ bytes. (Y : Picture) × Spells source Y bytes)
 some_bytes source X None p = p
 some_bytes source X (Some bytes) p = (X, p)
 

@@ -4,7 +4,8 @@ use Rattle.std.proofs.Common.{◌≡◌, ℕ, ◌<◌, ◌≤◌, List, [], ◌�
 use Rattle.std.proofs.lemmas.List.{map-append}
 
 -- a list of four items
-pub four_items : {T : Type 0} (xs : List T) (a b c d : T) → 4 ≤ length xs → length xs < 5 → a ≡ get_or xs 0 a → b ≡ get_or xs 1 b → c ≡ get_or xs 2 c → d ≡ get_or xs 3 d → xs ≡ a ∷ b ∷ c ∷ d ∷ []
+pub four_items : {T : Type 0} (xs : List T) (a b c d : T) → 4 ≤ length xs → length xs < 5 → a ≡ get_or xs 0 a → b ≡ get_or xs 1 b → c ≡ get_or xs 2 c
+    → d ≡ get_or xs 3 d → xs ≡ a ∷ b ∷ c ∷ d ∷ []
 four_items (x ∷ y ∷ z ∷ w ∷ []) a b c d l m e f g h = rw (e, f, g, h) refl
 four_items (x ∷ y ∷ z ∷ w ∷ v ∷ xs) a b c d l m e f g h = absurd (omega arith)
 four_items (x ∷ y ∷ z ∷ []) a b c d l m e f g h = absurd (omega arith)

@@ -48,7 +48,8 @@ further_forms kind = forms_of (row_of kind).word [] (row_of kind).about ++ forms
 
 -- the forms of the words that make something of a report, which other calls of the program take
 abbrev pub product_forms : List ℕ
-product_forms = codes ", draw [labels|contours] REPORT, draw REPORT FURTHER, measure [moments] [thickness] REPORT, measure whole REPORT, mask skeleton|object|distances|squares|thickness REPORT"
+product_forms = codes
+    ", draw [labels|contours|measures] REPORT, draw REPORT FURTHER, measure [moments] [thickness] [spacing X Y Z] REPORT, measure whole REPORT, mask skeleton|object|distances|squares|thickness REPORT"
 
 -- the forms of the words of all commands, and last of those that make something of a report
 abbrev pub usage_text : List ℕ

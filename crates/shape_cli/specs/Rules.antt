@@ -19,4 +19,5 @@ few_ends limit = rule_by (limit ∷ limit ∷ []) few_marks few_next
 
 -- the rules that a command line or a report may name
 abbrev pub program_rules : List (Named Rule)
-program_rules = record { name = codes "none"; rule = no_ends } ∷ record { name = codes "curve"; rule = curve_ends } ∷ record { name = codes "few"; rule = few_ends 2 } ∷ []
+program_rules = record { name = codes "none"; rule = no_ends } ∷ record { name = codes "curve"; rule = curve_ends }
+    ∷ record { name = codes "few"; rule = few_ends 2 } ∷ []

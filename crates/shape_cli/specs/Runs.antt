@@ -57,8 +57,10 @@ IsRightReport shelf kind X bytes = Holds (report_of shelf kind X) bytes × Shows
 -- the answer of a command, where these rules are on the shelf: this text, with this outcome, is right; no other outcome has one
 abbrev pub Answers : List (Named Rule) → Asked → Option Files → Outcome → List ℕ → Type 0
 Answers shelf (Asked.Make source wanted) files outcome.Done text = OfPicture files source (λ X. Makes shelf wanted X text)
-Answers shelf (Asked.Check source kind report) files outcome.Yes text = (text ≡ yes_text) × OfPicture files source (λ X. OfFile files report (IsRightReport shelf kind X))
-Answers shelf (Asked.Check source kind report) files (outcome.No k) text = (text ≡ no_text k) × OfPicture files source (λ X. OfFile files report (λ bytes. FirstBad (report_of shelf kind X) bytes k))
+Answers shelf (Asked.Check source kind report) files outcome.Yes text = (text ≡ yes_text)
+    × OfPicture files source (λ X. OfFile files report (IsRightReport shelf kind X))
+Answers shelf (Asked.Check source kind report) files (outcome.No k) text = (text ≡ no_text k)
+    × OfPicture files source (λ X. OfFile files report (λ bytes. FirstBad (report_of shelf kind X) bytes k))
 Answers shelf (Asked.Trial kind seed side) files outcome.Done text = IsTrialLine shelf kind seed side text
 Answers shelf _ files _ text = ⊥
 
@@ -77,7 +79,8 @@ ReadsFiles c = OfSource c (λ source. ⊤)
 -- of a report, good lines for the picture and at most 2048 bytes more were taken, and the rest is left at its place; a trial took nothing
 abbrev pub TookFew : List (Named Rule) → Asked → DeskState → DeskState → Type 0
 TookFew shelf (Asked.Make source wanted) old new = ⊤
-TookFew shelf (Asked.Check source kind report) old new = OfPicture old.files source (λ X. OfFile old.files report (λ bytes. TakesFew (report_of shelf kind X) bytes (new.left Report)))
+TookFew shelf (Asked.Check source kind report) old new =
+    OfPicture old.files source (λ X. OfFile old.files report (λ bytes. TakesFew (report_of shelf kind X) bytes (new.left Report)))
 TookFew shelf (Asked.Trial kind seed side) old new = (p : Place) → new.left p ≡ old.left p
 
 -- the whole answer was written

@@ -5,7 +5,7 @@ use Rattle.std.specs.Fmt.{decimal}
 use Rattle.shape_terms.specs.Pictures.{Picture}
 use Rattle.shape_terms.specs.Thinning.{Rule}
 use Rattle.shape_terms.specs.Shelves.{Named, rules_of}
-use Rattle.trial_picture.specs.Balls.{ball_picture}
+use Rattle.shape_grid.specs.Balls.{ball_picture}
 use Rattle.shape_analyse.specs.Tallies.{IsTallyOf}
 use Rattle.shape_analyse.specs.declared.tally.Tally.{Tally}
 use Rattle.shape_analyse.specs.declared.tally.Extent.{Extent}
@@ -23,11 +23,14 @@ thinned_text t = codes " events " ++ (decimal t.events ++ (codes " kept " ++ (de
 
 -- and the numbers before them, behind those of the outline's kind
 abbrev pub counted_text : (seed side : ℕ) → Tally → List ℕ
-counted_text seed side t = decimal seed ++ (codes " " ++ (decimal side ++ (codes " points " ++ (decimal t.points ++ (codes " parts " ++ (decimal t.parts.object ++ (codes " " ++ decimal t.parts.background)))))))
+counted_text seed side t =
+    decimal seed ++ (codes " "
+    ++ (decimal side ++ (codes " points " ++ (decimal t.points ++ (codes " parts " ++ (decimal t.parts.object ++ (codes " " ++ decimal t.parts.background)))))))
 
 -- the line of a trial with these numbers
 abbrev pub trial_text : (seed side : ℕ) → Tally → Extent → List ℕ
-trial_text seed side t (extent.Contours n m) = codes "trial pbm " ++ (counted_text seed side t ++ (codes " contours " ++ (decimal n ++ (codes " segments " ++ (decimal m ++ thinned_text t)))))
+trial_text seed side t (extent.Contours n m) =
+    codes "trial pbm " ++ (counted_text seed side t ++ (codes " contours " ++ (decimal n ++ (codes " segments " ++ (decimal m ++ thinned_text t)))))
 trial_text seed side t (extent.Faces n) = codes "trial raw " ++ (counted_text seed side t ++ (codes " exposed " ++ (decimal n ++ thinned_text t)))
 
 -- the numbers are those of the picture of a seed, and of its thinning by the last rule on the shelf

@@ -43,7 +43,7 @@ pub(crate) fn usage() -> &'static str
         ", edges pbm FILE, checkedges pbm FILE REPORT",
         ", pieces pbm FILE, checkpieces pbm FILE REPORT",
         ", balls pbm FILE, balls raw X Y Z FILE, checkballs pbm FILE REPORT, checkballs raw X Y Z FILE REPORT",
-        ", draw [labels|contours] REPORT, draw REPORT FURTHER, measure [moments] [thickness] REPORT, measure whole REPORT, mask skeleton|object|distances|squares|thickness REPORT",
+        ", draw [labels|contours|measures] REPORT, draw REPORT FURTHER, measure [moments] [thickness] [spacing X Y Z] REPORT, measure whole REPORT, mask skeleton|object|distances|squares|thickness REPORT",
     )
 }
 

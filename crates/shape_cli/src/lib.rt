@@ -23,5 +23,5 @@ mod verdict;
 pub use laws::{runs_are_complete, verdicts_are_right, words_are_of_one_command};
 pub use outcome::Outcome;
 pub use rules::shelf;
+pub use shape_grid::make_picture;
 pub use top::{is_no_form, run};
-pub use trial_picture::make_picture;

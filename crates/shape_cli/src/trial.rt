@@ -27,10 +27,10 @@ use report_text::Page;
 use shape_analyse::{Extent, Tally};
 use shape_check::{CheckFault, Judgement};
 use shape_desk::{Desk, SteadyDesk, put_all};
+use shape_grid::make_picture;
 use shape_rules::Shelf;
 use shape_space::NoMemory;
 use std::alloc::{AllocError, Global};
-use trial_picture::make_picture;
 
 // The picture that a seed gives.
 fn image_of(alloc: Global, kind: Kind, seed: u32, side: u32) -> Result<Image, NoMemory>

@@ -11,7 +11,8 @@ use Rattle.shape_terms.specs.CrackNumbers.{crack_number}
 use Rattle.shape_terms.proofs.Boxes.{in_box_first}
 use Rattle.shape_terms.proofs.Turning.{Moves, MoveLaws, ahead_by, edge_ahead, behind_by, edge_behind}
 use Rattle.shape_terms.proofs.Edges.{ahead_crack, behind_ahead}
-use Rattle.shape_terms.proofs.Successor.{Place, point, crack_at, step, moves, IsSide, move_laws, held, crack_of, successor_is, successor_crack, successor_once, placed, edge_crack}
+use Rattle.shape_terms.proofs.Successor.{Place, point, crack_at, step, moves, IsSide, move_laws, held, crack_of, successor_is, successor_crack, successor_once}
+use Rattle.shape_terms.proofs.Successor.{placed, edge_crack}
 use Rattle.shape_terms.proofs.SameCycles.{head_in, later_in, in_cases, in_none, cycle_on, of_list, list_of}
 use Rattle.shape_terms.proofs.Found.{Found, All-each}
 use Rattle.shape_terms.proofs.Numbered.{object_in_box}
@@ -30,7 +31,8 @@ mirror_laws = record {
   right_left = λ d h. omega arith;
   left_right = λ d h. omega arith;
   round = λ d h. omega arith;
-  there_and_back = λ d p h. (let e : ((d + 1) % 4 + 1) % 4 ≡ ((d + 3) % 4 + 3) % 4 = omega arith in subst (λ k. step k (step d p) ≡ p) e (move_laws.there_and_back d p h));
+  there_and_back = λ d p h.
+      (let e : ((d + 1) % 4 + 1) % 4 ≡ ((d + 3) % 4 + 3) % 4 = omega arith in subst (λ k. step k (step d p) ≡ p) e (move_laws.there_and_back d p h));
   across = λ d p h.
       (let e : ((d + 3) % 4 + 1) % 4 ≡ d = omega arith in
       sym (subst (λ k. step ((d + 3) % 4) (step k p) ≡ step k (step ((d + 3) % 4) p)) e (move_laws.across ((d + 3) % 4) p (omega arith))));
@@ -49,7 +51,8 @@ forth_is_back X q d = turned X (X (step ((d + 1) % 4) (step d q))) (X (step ((d 
 -- ---- numbers of cracks in the row over a pixel
 
 module _ (w h : ℕ) where
-  up_less : (q p : Place) → IsTrue (in_box (w ∷ h ∷ []) (point q)) → IsTrue (in_box (w ∷ h ∷ []) (point p)) → q.1 +ℤ pos 1 ≡ p.1 → raster_number (w ∷ h ∷ []) (point q) < raster_number (w ∷ h ∷ []) (point p)
+  up_less : (q p : Place) → IsTrue (in_box (w ∷ h ∷ []) (point q)) → IsTrue (in_box (w ∷ h ∷ []) (point p)) → q.1 +ℤ pos 1 ≡ p.1
+      → raster_number (w ∷ h ∷ []) (point q) < raster_number (w ∷ h ∷ []) (point p)
   up_less q p a b e =
       let f = in_box_first w (h ∷ []) q.0 (q.1 ∷ []) a in
       let g = in_box_first h [] q.1 [] f.2 in
@@ -68,7 +71,8 @@ module _ (X : Picture) (axes : length X.sides ≡ 2) where
       go (w ∷ h ∷ []) e a = (w, h, e)
       go (w ∷ h ∷ d ∷ s) e a = absurd (omega arith)
 
-  higher : (q p : Place) (s t : ℕ) → IsCrack X (crack_at q s) → IsCrack X (crack_at p t) → q.1 +ℤ pos 1 ≡ p.1 → crack_number X.sides (crack_at q s) < crack_number X.sides (crack_at p t)
+  higher : (q p : Place) (s t : ℕ) → IsCrack X (crack_at q s) → IsCrack X (crack_at p t) → q.1 +ℤ pos 1 ≡ p.1
+      → crack_number X.sides (crack_at q s) < crack_number X.sides (crack_at p t)
   higher q p s t k l e =
       let (w, h, f) = flat_sides in
       let a = subst (λ (d : List ℕ). IsTrue (in_box d (point q))) (sym f) (object_in_box X (point q) k.pixel) in
@@ -79,7 +83,8 @@ module _ (X : Picture) (axes : length X.sides ≡ 2) where
       omega arith
 
   -- of the three edges that may come next all stand earlier
-  earlier : (m : Moves Place ℕ) (b a : Bool) (p A B : Place) (t : ℕ) → A.1 +ℤ pos 1 ≡ p.1 → B.1 +ℤ pos 1 ≡ p.1 → m.right t ≡ 0 → 0 < t → IsCrack X (crack_at p t)
+  earlier : (m : Moves Place ℕ) (b a : Bool) (p A B : Place) (t : ℕ) → A.1 +ℤ pos 1 ≡ p.1 → B.1 +ℤ pos 1 ≡ p.1 → m.right t ≡ 0 → 0 < t
+      → IsCrack X (crack_at p t)
       → let n = ahead_by m (held X) b a p A B t in IsCrack X (crack_of n) → crack_number X.sides (crack_of n) < crack_number X.sides (crack_at p t)
   earlier m true a p A B t up over r s l k = higher B p (m.left t) t k l over
   earlier m false true p A B t up over r s l k = higher A p t t k l up
@@ -88,17 +93,21 @@ module _ (X : Picture) (axes : length X.sides ≡ 2) where
   left_follows : (p : Place) → IsCrack X (crack_at p 3) → crack_number X.sides (successor X (crack_at p 3)) < crack_number X.sides (crack_at p 3)
   left_follows p k =
       let s = successor_is X p 3 in
-      let n = earlier moves (held X (step 0 (step 3 p))) (held X (step 0 p)) p (step 0 p) (step 0 (step 3 p)) 3 (omega (arith, ints)) (omega (arith, ints)) refl (omega arith) k (subst (IsCrack X) s (successor_crack X axes (crack_at p 3) k)) in
+      let n = earlier moves (held X (step 0 (step 3 p))) (held X (step 0 p)) p (step 0 p) (step 0 (step 3 p)) 3 (omega (arith, ints)) (omega (arith, ints)) refl
+      (omega arith) k (subst (IsCrack X) s (successor_crack X axes (crack_at p 3) k)) in
       subst (λ (d : Crack). crack_number X.sides d < crack_number X.sides (crack_at p 3)) (sym s) n
 
-  right_preceded : (p : Place) → IsCrack X (crack_at p 1) → (d : Crack) × IsCrack X d × (crack_number X.sides d < crack_number X.sides (crack_at p 1)) × (successor X d ≡ crack_at p 1)
+  right_preceded : (p : Place) → IsCrack X (crack_at p 1) → (d : Crack) × IsCrack X d × (crack_number X.sides d < crack_number X.sides (crack_at p 1))
+      × (successor X d ≡ crack_at p 1)
   unfolding mirrored
   right_preceded p k =
       let n = edge_ahead mirrored (held X) p 1 in
       let i = ahead_crack mirrored mirror_laws (held X) p 1 (k.side, k.pixel, k.neighbour) in
       let d = edge_crack X n i in
-      let s : successor X (crack_of n) ≡ crack_at p 1 = successor_is X n.0 n.1 ∙ ap crack_of (forth_is_back (held X) n.0 n.1 ∙ behind_ahead mirrored mirror_laws (held X) p 1 (k.side, k.pixel, k.neighbour)) in
-      let l = earlier mirrored (held X (step 0 (step 1 p))) (held X (step 0 p)) p (step 0 p) (step 0 (step 1 p)) 1 (omega (arith, ints)) (omega (arith, ints)) refl (omega arith) k d in
+      let s : successor X (crack_of n) ≡ crack_at p 1 = successor_is X n.0 n.1
+      ∙ ap crack_of (forth_is_back (held X) n.0 n.1 ∙ behind_ahead mirrored mirror_laws (held X) p 1 (k.side, k.pixel, k.neighbour)) in
+      let l = earlier mirrored (held X (step 0 (step 1 p))) (held X (step 0 p)) p (step 0 p) (step 0 (step 1 p)) 1 (omega (arith, ints)) (omega (arith, ints))
+      refl (omega arith) k d in
       (crack_of n, d, l, s)
 
   -- ---- cycles
@@ -155,5 +164,6 @@ module _ (X : Picture) (axes : length X.sides ≡ 2) where
         let a = placed X axes c k in
         let q : c ≡ crack_at a.place 3 = a.is ∙ ap (crack_at a.place) s in
         let r = left_follows a.place (subst (IsCrack X) q k) in
-        let l : crack_number X.sides (successor X c) < n = subst (λ j. crack_number X.sides (successor X c) < j) e (subst (λ (d : Crack). crack_number X.sides (successor X d) < crack_number X.sides d) (sym q) r) in
+        let l : crack_number X.sides (successor X c) < n = subst (λ j. crack_number X.sides (successor X c) < j) e
+        (subst (λ (d : Crack). crack_number X.sides (successor X d) < crack_number X.sides d) (sym q) r) in
         back c k (f.passed (successor X c) (successor_crack X axes c k) l)

@@ -28,18 +28,21 @@ crack_once c d e =
 pub cracks_equal : (a b : Program.Crack) (r : Bool) → r ≡ not ((int_eq a.p.y b.p.y && int_eq a.p.x b.p.x) && (a.side == b.side)) → r ≡ false → a ≡ b
 cracks_equal a b r e f = search rules
 
-pub cracks_differ : (a b : Program.Crack) (r : Bool) → r ≡ not ((int_eq a.p.y b.p.y && int_eq a.p.x b.p.x) && (a.side == b.side)) → r ≡ true → crack_of a ≡ crack_of b → ⊥
+pub cracks_differ : (a b : Program.Crack) (r : Bool) → r ≡ not ((int_eq a.p.y b.p.y && int_eq a.p.x b.p.x) && (a.side == b.side)) → r ≡ true
+    → crack_of a ≡ crack_of b → ⊥
 cracks_differ a b r e f g = let h = crack_once a b g in differ a b r e f h
   where
     differ : (a b : Program.Crack) (r : Bool) → r ≡ not ((int_eq a.p.y b.p.y && int_eq a.p.x b.p.x) && (a.side == b.side)) → r ≡ true → a ≡ b → ⊥
     differ a b r e f h = search rules
 
-by_stays : (X : Picture) (c : Crack) (b : Bool) → stays X c ≡ b → (l m : List Point) → (b ≡ true → m ≡ l) → (b ≡ false → m ≡ l ++ c.pixel ∷ []) → m ≡ l ++ cond (stays X c) [] (c.pixel ∷ [])
+by_stays : (X : Picture) (c : Crack) (b : Bool) → stays X c ≡ b → (l m : List Point) → (b ≡ true → m ≡ l) → (b ≡ false → m ≡ l ++ c.pixel ∷ [])
+    → m ≡ l ++ cond (stays X c) [] (c.pixel ∷ [])
 by_stays X c true e l m f g = rw e (f refl ∙ sym (append-nil l))
 by_stays X c false e l m f g = rw e (g refl)
 
 -- a pixel was put last, since it was left
-pub pixel_put : (X : Picture) (p q : P2) (c : Crack) → c.pixel ≡ point_of p → point_of q ≡ (successor X c).pixel → (q ≡ p → ⊥) → (old new : List P2) → new ≡ old ++ p ∷ []
+pub pixel_put : (X : Picture) (p q : P2) (c : Crack) → c.pixel ≡ point_of p → point_of q ≡ (successor X c).pixel → (q ≡ p → ⊥) → (old new : List P2)
+    → new ≡ old ++ p ∷ []
     → map point_of new ≡ map point_of old ++ cond (stays X c) [] (c.pixel ∷ [])
 pixel_put X p q c is to away old new e =
     by_stays X c (stays X c) refl (map point_of old) (map point_of new)
@@ -47,7 +50,8 @@ pixel_put X p q c is to away old new e =
     (λ s. ap (map point_of) e ∙ (map-append point_of old (p ∷ []) ∙ ap (λ (x : Point). map point_of old ++ x ∷ []) (sym is)))
 
 -- it was not, since it was not left
-pub pixel_kept : (X : Picture) → length X.sides ≡ 2 → (p q : P2) (c : Crack) → IsCrack X c → c.pixel ≡ point_of p → point_of q ≡ (successor X c).pixel → q ≡ p → (old : List P2)
+pub pixel_kept : (X : Picture) → length X.sides ≡ 2 → (p q : P2) (c : Crack) → IsCrack X c → c.pixel ≡ point_of p → point_of q ≡ (successor X c).pixel → q ≡ p
+    → (old : List P2)
     → map point_of old ≡ map point_of old ++ cond (stays X c) [] (c.pixel ∷ [])
 pixel_kept X axes p q c k is to same old =
     by_stays X c (stays X c) refl (map point_of old) (map point_of old)

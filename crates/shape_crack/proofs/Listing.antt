@@ -1,6 +1,7 @@
 -- The contours found so far, one for each cycle of the cracks that were passed by number.
 -- Stated of the values alone; how contours and marks are kept belongs elsewhere.
-use Rattle.std.proofs.Common.{ℕ, zero, suc, ◌+◌, ◌-◌, ◌*◌, ◌/◌, ◌%◌, ◌<◌, ◌≤◌, ◌≡◌, Bool, true, false, refl, ap, sym, ◌∙◌, subst, arith, List, [], ◌∷◌, ◌++◌, length, length-append, map, ◌⊎◌, inl, inr}
+use Rattle.std.proofs.Common.{ℕ, zero, suc, ◌+◌, ◌-◌, ◌*◌, ◌/◌, ◌%◌, ◌<◌, ◌≤◌, ◌≡◌, Bool, true, false, refl, ap, sym, ◌∙◌, subst, arith, List, [], ◌∷◌, ◌++◌}
+use Rattle.std.proofs.Common.{length, length-append, map, ◌⊎◌, inl, inr}
 use Rattle.std.specs.Prelude.{Contains, flat_map}
 use Rattle.std.proofs.lemmas.List.{map-append}
 use Rattle.shape_terms.specs.Points.{box_count, raster_point}
@@ -40,17 +41,22 @@ module _ (X : Picture) (axes : length X.sides ≡ 2) where
 
   listing_skip : (i : ℕ) (marks : ℕ → Bool) (list : List Contour) (l : Listing X i marks list)
       → (IsCrack X (numbered X.sides i) → Contains (flat_map (λ c. c) l.cycles) (numbered X.sides i)) → Listing X (i + 1) marks list
-  listing_skip i marks list l s = record { cycles = l.cycles; found = found_skip X axes i marks l.cycles l.found s; contours_are = l.contours_are; few = (let f = l.few in omega arith) }
+  listing_skip i marks list l s =
+      record { cycles = l.cycles; found = found_skip X axes i marks l.cycles l.found s; contours_are = l.contours_are; few = (let f = l.few in omega arith) }
 
-  listing_more : (i : ℕ) (marks marks' : ℕ → Bool) (list : List Contour) (k : Contour) → i < box_count X.sides * 4 → Listing X i marks list → IsCrack X (numbered X.sides i) → IsLevel (numbered X.sides i) → marks i ≡ false
+  listing_more : (i : ℕ) (marks marks' : ℕ → Bool) (list : List Contour) (k : Contour) → i < box_count X.sides * 4 → Listing X i marks list
+      → IsCrack X (numbered X.sides i) → IsLevel (numbered X.sides i) → marks i ≡ false
       → IsContourFrom X (numbered X.sides i) k → IsCycleMarked X (numbered X.sides i) marks marks' → Listing X (i + 1) marks' (list ++ k ∷ [])
-  listing_more i marks marks' list k b l is level new p m = go m.cracks m.cycle m.first m.marks (same_cracks X (numbered X.sides i) p.cracks m.cracks p.cycle p.first m.cycle m.first)
+  listing_more i marks marks' list k b l is level new p m =
+      go m.cracks m.cycle m.first m.marks (same_cracks X (numbered X.sides i) p.cracks m.cracks p.cycle p.first m.cycle m.first)
     where
-      go : (cracks : List Crack) → IsCycle X cracks → first_of_cycle cracks ≡ numbered X.sides i → MarksCycle X.sides cracks marks marks' → p.cracks ≡ cracks → Listing X (i + 1) marks' (list ++ k ∷ [])
+      go : (cracks : List Crack) → IsCycle X cracks → first_of_cycle cracks ≡ numbered X.sides i → MarksCycle X.sides cracks marks marks' → p.cracks ≡ cracks
+          → Listing X (i + 1) marks' (list ++ k ∷ [])
       go [] c f n e = absurd c
       go (s ∷ xs) c f n e = record {
         cycles = l.cycles ++ (s ∷ xs) ∷ [];
-        found = found_more X axes i marks marks' l.cycles l.found s (subst (IsCrack X) (sym f) is) (ap (crack_number X.sides) f ∙ numbered_back X.sides i b) (subst IsLevel (sym f) level) new xs c n;
+        found = found_more X axes i marks marks' l.cycles l.found s (subst (IsCrack X) (sym f) is) (ap (crack_number X.sides) f ∙ numbered_back X.sides i b)
+            (subst IsLevel (sym f) level) new xs c n;
         contours_are = (λ j. l.contours_are j ++ (p.contour ∙ ap (contour_of X) e) j ∷ []) ∙ sym (map-append (contour_of X) l.cycles ((s ∷ xs) ∷ []));
         few = (let f = l.few in let a = length-append list (k ∷ []) in omega arith);
       }
@@ -60,16 +66,20 @@ module _ (X : Picture) (axes : length X.sides ≡ 2) where
 
   -- ---- background pixels
 
-  listing_gap : (d n m : ℕ) (marks : ℕ → Bool) (list : List Contour) → n + d ≡ m → ((j : ℕ) → n ≤ j → j < m → IsCrack X (numbered X.sides j) → ⊥) → Listing X n marks list → Listing X m marks list
+  listing_gap : (d n m : ℕ) (marks : ℕ → Bool) (list : List Contour) → n + d ≡ m → ((j : ℕ) → n ≤ j → j < m → IsCrack X (numbered X.sides j) → ⊥)
+      → Listing X n marks list → Listing X m marks list
   listing_gap zero n m marks list e none l = subst (λ k. Listing X k marks list) (let q : n ≡ m = omega arith in q) l
-  listing_gap (suc d) n m marks list e none l = listing_gap d (n + 1) m marks list (omega arith) (λ j a b. none j (omega arith) b) (listing_skip n marks list l (λ k. absurd (none n (omega arith) (omega arith) k)))
+  listing_gap (suc d) n m marks list e none l = listing_gap d (n + 1) m marks list (omega arith) (λ j a b. none j (omega arith) b)
+      (listing_skip n marks list l (λ k. absurd (none n (omega arith) (omega arith) k)))
 
   pub listing_blank : (n i : ℕ) (marks : ℕ → Bool) (list : List Contour) → n ≤ i → AreBlank X n i → Listing X (n * 4) marks list → Listing X (i * 4) marks list
-  listing_blank n i marks list a blank l = listing_gap (i * 4 - n * 4) (n * 4) (i * 4) marks list (omega arith) (λ j b c k. let f = blank (j / 4) (omega arith) (omega arith) in let p = k.pixel in cc) l
+  listing_blank n i marks list a blank l = listing_gap (i * 4 - n * 4) (n * 4) (i * 4) marks list (omega arith)
+      (λ j b c k. let f = blank (j / 4) (omega arith) (omega arith) in let p = k.pixel in cc) l
 
   -- ---- one side of a pixel after the other
 
-  module _ (i s n : ℕ) (l : i < box_count X.sides) (side : s < 4) (at_side : n ≡ i * 4 + s) (marks : ℕ → Bool) (list : List Contour) (found : Listing X n marks list) where
+  module _ (i s n : ℕ) (l : i < box_count X.sides) (side : s < 4) (at_side : n ≡ i * 4 + s) (marks : ℕ → Bool) (list : List Contour)
+      (found : Listing X n marks list) where
     numbered_is : numbered X.sides n ≡ side_of X.sides i s
     numbered_is =
         let p : n / 4 ≡ i = omega arith in
@@ -91,7 +101,9 @@ module _ (X : Picture) (axes : length X.sides ≡ 2) where
     listing_taken marks' list' level k (inr a) =
         let c = sym numbered_is in
         subst (λ (l : List Contour). Listing X (n + 1) marks' l) (sym a.last)
-        (listing_more n marks marks' list a.contour (omega arith) found (subst (IsCrack X) c k) (subst IsLevel c level) (subst (λ j. marks j ≡ false) number_is a.unmarked) (subst (λ (d : Crack). IsContourFrom X d a.contour) c a.from) (subst (λ (d : Crack). IsCycleMarked X d marks marks') c a.marked))
+        (listing_more n marks marks' list a.contour (omega arith) found (subst (IsCrack X) c k) (subst IsLevel c level)
+        (subst (λ j. marks j ≡ false) number_is a.unmarked) (subst (λ (d : Crack). IsContourFrom X d a.contour) c a.from)
+        (subst (λ (d : Crack). IsCycleMarked X d marks marks') c a.marked))
 
     -- a right or a left side, whose crack is on a cycle that was found where it is one
     pub listing_passed : (s ≡ 1) ⊎ (s ≡ 3) → Listing X (n + 1) marks list

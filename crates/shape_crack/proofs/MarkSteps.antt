@@ -24,7 +24,8 @@ module _ (upper lower : List Bool) (n : ℕ) where
   upper_marked e l = record {
     marked = ap (side_bit (get_or (set upper (n / 4) true) (n / 4) false) (get_or lower (n / 4) false)) e ∙ get_or-set_same upper (n / 4) true false l;
     others = λ j d. elim (ℕ_discrete (j / 4) (n / 4)) [
-      | yes q ↦ not_upper (get_or (set upper (n / 4) true) (j / 4) false) (get_or upper (j / 4) false) (get_or lower (j / 4) false) (j % 4) (λ r. d (omega (arith, q, r, e)))
+      | yes q ↦ not_upper (get_or (set upper (n / 4) true) (j / 4) false) (get_or upper (j / 4) false) (get_or lower (j / 4) false) (j % 4)
+          (λ r. d (omega (arith, q, r, e)))
       | no q ↦ ap (λ u. side_bit u (get_or lower (j / 4) false) (j % 4)) (get_or-set_other upper (n / 4) (j / 4) true false q)
     ];
   }
@@ -33,7 +34,8 @@ module _ (upper lower : List Bool) (n : ℕ) where
   lower_marked e l = record {
     marked = ap (side_bit (get_or upper (n / 4) false) (get_or (set lower (n / 4) true) (n / 4) false)) e ∙ get_or-set_same lower (n / 4) true false l;
     others = λ j d. elim (ℕ_discrete (j / 4) (n / 4)) [
-      | yes q ↦ not_lower (get_or upper (j / 4) false) (get_or (set lower (n / 4) true) (j / 4) false) (get_or lower (j / 4) false) (j % 4) (λ r. d (omega (arith, q, r, e)))
+      | yes q ↦ not_lower (get_or upper (j / 4) false) (get_or (set lower (n / 4) true) (j / 4) false) (get_or lower (j / 4) false) (j % 4)
+          (λ r. d (omega (arith, q, r, e)))
       | no q ↦ ap (λ u. side_bit (get_or upper (j / 4) false) u (j % 4)) (get_or-set_other lower (n / 4) (j / 4) true false q)
     ];
   }

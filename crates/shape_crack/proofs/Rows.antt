@@ -1,6 +1,7 @@
 -- The pixels over and under one: their raster numbers are a whole row before its own and behind it.
 -- Stated of flat boxes and pictures alone.
-use Rattle.std.proofs.Common.{◌≡◌, ℕ, zero, suc, ◌+◌, ◌*◌, ◌/◌, ◌%◌, ◌-◌, ◌<◌, ◌≤◌, Bool, true, false, refl, ap, sym, ◌∙◌, subst, arith, List, [], ◌∷◌, ◌⊎◌, inl, inr, mul_comm}
+use Rattle.std.proofs.Common.{◌≡◌, ℕ, zero, suc, ◌+◌, ◌*◌, ◌/◌, ◌%◌, ◌-◌, ◌<◌, ◌≤◌, Bool, true, false, refl, ap, sym, ◌∙◌, subst, arith, List, [], ◌∷◌, ◌⊎◌}
+use Rattle.std.proofs.Common.{inl, inr, mul_comm}
 use Rattle.std.specs.Prelude.{ℤ, pos, negsuc, ◌+ℤ◌, nat_abs, not, ◌&&◌, ◌↔◌, IsTrue}
 use Rattle.std.proofs.lemmas.Int.{ints}
 use Rattle.std.proofs.lemmas.Nat.{mul-le}
@@ -22,7 +23,8 @@ crack_test X c r s e = go (at X c.pixel) (at X (moved c.pixel (normal c.side))) 
     go false b p q = ((λ t. let f : r ≡ false = rw (e, p) refl in cc), (λ k. let n = k.pixel in cc))
 
 -- and where the pixel is object
-pub crack_when : (X : Picture) (c : Crack) (r : Bool) → c.side < 4 → at X c.pixel ≡ true → r ≡ not (at X (moved c.pixel (normal c.side))) → IsTrue r ↔ IsCrack X c
+pub crack_when : (X : Picture) (c : Crack) (r : Bool) → c.side < 4 → at X c.pixel ≡ true → r ≡ not (at X (moved c.pixel (normal c.side)))
+    → IsTrue r ↔ IsCrack X c
 crack_when X c r s p e = crack_test X c r s (rw p e)
 
 pub crack_or_not : (X : Picture) (c : Crack) → c.side < 4 → IsCrack X c ⊎ (IsCrack X c → ⊥)
@@ -67,7 +69,8 @@ column w h i l =
 -- the point with these coordinates has this number alone
 placed_at : (w h x y n : ℕ) → x < w → y < h → x + w * y ≡ n → pos x ∷ pos y ∷ [] ≡ raster_point (w ∷ h ∷ []) n
 placed_at w h x y n a b e =
-    let inside : IsTrue (in_box (w ∷ h ∷ []) (pos x ∷ pos y ∷ [])) = in_box_more w (h ∷ []) (pos x) (pos y ∷ []) (omega (arith, ints)) a (in_box_more h [] (pos y) [] (omega (arith, ints)) b refl) in
+    let inside : IsTrue (in_box (w ∷ h ∷ []) (pos x ∷ pos y ∷ [])) = in_box_more w (h ∷ []) (pos x) (pos y ∷ []) (omega (arith, ints)) a
+    (in_box_more h [] (pos y) [] (omega (arith, ints)) b refl) in
     sym (raster_point-raster_number (w ∷ h ∷ []) (pos x ∷ pos y ∷ []) inside) ∙ ap (raster_point (w ∷ h ∷ [])) (flat_number w h (pos x) (pos y) ∙ e)
 
 some_row : (w x y i : ℕ) → x < w → x + w * y ≡ i → w ≤ i → (z : ℕ) × (y ≡ z + 1) × (x + w * z ≡ i - w)
@@ -95,7 +98,8 @@ module _ (w h i : ℕ) (l : i < box_count (w ∷ h ∷ [])) where
   over_out values m = not_so _ (λ t.
       let c = column w h i l in
       let y = first_row w (i % w) ((i / w) % h) i c.number m in
-      let f = in_box_first w (h ∷ []) (pos (i % w) +ℤ pos 0) ((pos ((i / w) % h) +ℤ negsuc 0) ∷ []) (object_in_box (record { sides = w ∷ h ∷ []; values = values }) (moved (raster_point (w ∷ h ∷ []) i) (normal 0)) t) in
+      let f = in_box_first w (h ∷ []) (pos (i % w) +ℤ pos 0) ((pos ((i / w) % h) +ℤ negsuc 0) ∷ [])
+      (object_in_box (record { sides = w ∷ h ∷ []; values = values }) (moved (raster_point (w ∷ h ∷ []) i) (normal 0)) t) in
       let g = in_box_first h [] (pos ((i / w) % h) +ℤ negsuc 0) [] f.2 in
       omega (arith, ints, g.0, y))
 
@@ -110,7 +114,8 @@ module _ (w h i : ℕ) (l : i < box_count (w ∷ h ∷ [])) where
       below : (w h y x : ℕ) → x + w * y < w * h → y < h
       below w h y x l = elim (dec_lt y h) [ yes a ↦ a | no a ↦ (let m : w * h ≤ w * y = mul-le w h w y (omega arith) (omega arith) in absurd (omega arith)) ]
 
-  under_out : (values : List Bool) → box_count (w ∷ h ∷ []) ≤ i + w → at (record { sides = w ∷ h ∷ []; values = values }) (moved (raster_point (w ∷ h ∷ []) i) (normal 2)) ≡ false
+  under_out : (values : List Bool) → box_count (w ∷ h ∷ []) ≤ i + w
+      → at (record { sides = w ∷ h ∷ []; values = values }) (moved (raster_point (w ∷ h ∷ []) i) (normal 2)) ≡ false
   under_out values m = not_so _ (λ t.
       let c = column w h i l in
       let q = moved (raster_point (w ∷ h ∷ []) i) (normal 2) in
@@ -128,10 +133,13 @@ module _ (X : Picture) (w h : ℕ) (e : w ∷ h ∷ [] ≡ X.sides) (i : ℕ) (l
   over_number m = subst (λ (s : List ℕ). i < box_count s → moved (raster_point s i) (normal 0) ≡ raster_point s (i - w)) e (λ l. over_in w h i l m) l
 
   pub over_none : i < w → at X (moved (raster_point X.sides i) (normal 0)) ≡ false
-  over_none m = subst (λ (s : List ℕ). i < box_count s → at (record { sides = s; values = X.values }) (moved (raster_point s i) (normal 0)) ≡ false) e (λ l. over_out w h i l X.values m) l
+  over_none m = subst (λ (s : List ℕ). i < box_count s → at (record { sides = s; values = X.values }) (moved (raster_point s i) (normal 0)) ≡ false) e
+      (λ l. over_out w h i l X.values m) l
 
   pub under_number : i + w < box_count X.sides → moved (raster_point X.sides i) (normal 2) ≡ raster_point X.sides (i + w)
-  under_number m = subst (λ (s : List ℕ). i < box_count s → i + w < box_count s → moved (raster_point s i) (normal 2) ≡ raster_point s (i + w)) e (λ l m. under_in w h i l m) l m
+  under_number m = subst (λ (s : List ℕ). i < box_count s → i + w < box_count s → moved (raster_point s i) (normal 2) ≡ raster_point s (i + w)) e
+      (λ l m. under_in w h i l m) l m
 
   pub under_none : box_count X.sides ≤ i + w → at X (moved (raster_point X.sides i) (normal 2)) ≡ false
-  under_none m = subst (λ (s : List ℕ). i < box_count s → box_count s ≤ i + w → at (record { sides = s; values = X.values }) (moved (raster_point s i) (normal 2)) ≡ false) e (λ l m. under_out w h i l X.values m) l m
+  under_none m = subst (λ (s : List ℕ). i < box_count s → box_count s ≤ i + w
+      → at (record { sides = s; values = X.values }) (moved (raster_point s i) (normal 2)) ≡ false) e (λ l m. under_out w h i l X.values m) l m

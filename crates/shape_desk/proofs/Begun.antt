@@ -6,7 +6,8 @@ use Rattle.shape_desk.specs.Line.{IfTold}
 use Rattle.shape_desk.specs.Files.{OfFile}
 
 -- a fact of the bytes that are left at the front of a file is one of the file
-pub of_file : (files : Option Files) (name : List ℕ) (left : Option (List ℕ)) (P : List ℕ → Type 0) → IsAtFront files name left → IfTold left P → OfFile files name P
+pub of_file : (files : Option Files) (name : List ℕ) (left : Option (List ℕ)) (P : List ℕ → Type 0) → IsAtFront files name left → IfTold left P
+    → OfFile files name P
 of_file None name left P a h = tt
 of_file (Some files) name None P a h = absurd (let z = a.1 in cc)
 of_file (Some files) name (Some bytes) P a h = rw (sym a.0) h

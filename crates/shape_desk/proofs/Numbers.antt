@@ -1,5 +1,6 @@
 -- The run of digits at the front of bytes, and the one spelling of a number.
-use Rattle.std.proofs.Common.{◌≡◌, ◌≢◌, ◌+◌, ◌-◌, ◌*◌, ◌^◌, ◌<◌, ◌≤◌, ℕ, zero, suc, ℤ, pos, negsuc, Bool, true, false, cond, List, [], ◌∷◌, ◌++◌, length, get_or, take, drop, take_while, decimal, inl, inr, FitsSigned, refl, sym, ap, subst, ◌∙◌, arith}
+use Rattle.std.proofs.Common.{◌≡◌, ◌≢◌, ◌+◌, ◌-◌, ◌*◌, ◌^◌, ◌<◌, ◌≤◌, ℕ, zero, suc, ℤ, pos, negsuc, Bool, true, false, cond, List, [], ◌∷◌, ◌++◌, length}
+use Rattle.std.proofs.Common.{get_or, take, drop, take_while, decimal, inl, inr, FitsSigned, refl, sym, ap, subst, ◌∙◌, arith}
 use Rattle.std.specs.Int.{w64}
 use Rattle.std.specs.Fmt.{signed_decimal}
 use Rattle.std.specs.Char.{is_ascii_digit, digit_value}
@@ -14,7 +15,7 @@ use Rattle.std.proofs.lemmas.Bool.{cases_lt}
 use Rattle.std.proofs.lemmas.List.{drop_more, length-take, length-drop, take_min, get_or-take}
 use Rattle.std.specs.List.{prefix_len}
 use borrow.Author.Tests.{ne_eqb}
-use Rattle.shape_desk.specs.Number.{number_front, HasNoLeadingZero, IsSizeOf, IsRunSoFar, SpellsNumber}
+use Rattle.shape_desk.specs.Number.{number_front, HasNoLeadingZero, IsSizeOf, IsRunSoFar, SpellsNumber, IsShortNumber}
 
 -- ---- the run of digits
 
@@ -40,9 +41,11 @@ take-length-take_while p xs = ap (λ k. take k xs) (length-take (prefix_len p xs
 pub after_run : (xs : List ℕ) → is_ascii_digit (get_or xs (length (take_while is_ascii_digit xs)) 0) ≡ false
 after_run [] = refl
 after_run (x ∷ xs) =
-    subst (λ (l : List ℕ). is_ascii_digit (get_or (x ∷ xs) (length l) 0) ≡ false) (sym (take_while-cons is_ascii_digit x xs)) (first (after_run xs) (is_ascii_digit x) refl)
+    subst (λ (l : List ℕ). is_ascii_digit (get_or (x ∷ xs) (length l) 0) ≡ false) (sym (take_while-cons is_ascii_digit x xs))
+    (first (after_run xs) (is_ascii_digit x) refl)
   where
-    first : is_ascii_digit (get_or xs (length (take_while is_ascii_digit xs)) 0) ≡ false → (b : Bool) → is_ascii_digit x ≡ b → is_ascii_digit (get_or (x ∷ xs) (length (cond b (x ∷ take_while is_ascii_digit xs) [])) 0) ≡ false
+    first : is_ascii_digit (get_or xs (length (take_while is_ascii_digit xs)) 0) ≡ false → (b : Bool) → is_ascii_digit x ≡ b
+        → is_ascii_digit (get_or (x ∷ xs) (length (cond b (x ∷ take_while is_ascii_digit xs) [])) 0) ≡ false
     first h true e = h
     first h false e = e
 
@@ -69,7 +72,8 @@ pub no_minus : (ds es : List ℕ) → AllDigits 10 ds → ds ≢ 45 ∷ es
 no_minus ds es d e = omega (arith, digit_from_value 45 (subst (AllDigits 10) e d).0)
 
 -- what was written is the front that is read, where no digit follows
-pub number_front-signed_decimal : (z : ℤ) (rest : List ℕ) → FitsSigned w64 z → is_ascii_digit (get_or rest 0 0) ≡ false → number_front (signed_decimal z ++ rest) ≡ signed_decimal z
+pub number_front-signed_decimal : (z : ℤ) (rest : List ℕ) → FitsSigned w64 z → is_ascii_digit (get_or rest 0 0) ≡ false
+    → number_front (signed_decimal z ++ rest) ≡ signed_decimal z
 number_front-signed_decimal (pos n) rest f s =
     let d = digits_of_decimal n (omega (arith, f.sfits)) in
     number_front-unsigned (decimal n ++ rest) (first (decimal n) d (decimal_nonempty n (omega (arith, f.sfits)))) ∙ take_while-digits (decimal n) rest d s
@@ -104,7 +108,8 @@ at_least n [] = omega arith
 at_least n (c ∷ cs) = omega (arith, at_least (n * 10 + digit_value c) cs)
 
 -- one digit more
-pub value_step : (size : ℕ) (ds : List ℕ) (k : ℕ) → AllDigits 10 ds → k < length ds → digits_value_after 10 (size * 10 + (get_or ds k 0 - 48)) (drop (k + 1) ds) ≡ digits_value_after 10 size (drop k ds)
+pub value_step : (size : ℕ) (ds : List ℕ) (k : ℕ) → AllDigits 10 ds → k < length ds
+    → digits_value_after 10 (size * 10 + (get_or ds k 0 - 48)) (drop (k + 1) ds) ≡ digits_value_after 10 size (drop k ds)
 value_step size ds k d l =
     let e : get_or ds k 0 - 48 ≡ digit_value (get_or ds k 0) = omega (arith, digit_value_digit (get_or ds k 0) (digit_at ds k d l)) in
     ap (λ v. digits_value_after 10 (size * 10 + v) (drop (k + 1) ds)) e ∙ sym (ap (digits_value_after 10 size) (drop_more ds k 0 l))
@@ -158,10 +163,12 @@ run_more bs i m next l t small great r =
     record {
       within = omega arith;
       size = elim (cases_lt 922337203685477580 m) [
-        | inl h ↦ size_stays (digits_value 10 ds) (digits_value_after 10 m (drop i ds)) next (drop (i + 1) ds) r.size (value_above m (drop i ds) h (omega (arith, length-drop i ds))) (great h)
+        | inl h ↦ size_stays (digits_value 10 ds) (digits_value_after 10 m (drop i ds)) next (drop (i + 1) ds) r.size
+            (value_above m (drop i ds) h (omega (arith, length-drop i ds))) (great h)
         | inr h ↦
             let e : digits_value_after 10 next (drop (i + 1) ds) ≡ digits_value_after 10 m (drop i ds) =
-            ap (λ v. digits_value_after 10 v (drop (i + 1) ds)) (small (omega arith) ∙ ap (λ b. m * 10 + (b - 48)) (sym c)) ∙ value_step m ds i (AllDigits-take_while bs) w in
+            ap (λ v. digits_value_after 10 v (drop (i + 1) ds)) (small (omega arith) ∙ ap (λ b. m * 10 + (b - 48)) (sym c))
+            ∙ value_step m ds i (AllDigits-take_while bs) w in
             subst (IsSizeOf (digits_value 10 ds)) (sym e) r.size
       ];
     }
@@ -184,7 +191,8 @@ run_done bs i m e r =
     subst (λ l. IsSizeOf (digits_value 10 ds) (digits_value_after 10 m l)) none r.size
 
 -- where another byte follows, or none, the run is whole
-pub run_ends : (bs : List ℕ) (i m : ℕ) → i < length bs → is_ascii_digit (get_or bs i 0) ≡ false → IsRunSoFar bs i m → (i ≡ length (take_while is_ascii_digit bs)) × IsSizeOf (digits_value 10 (take_while is_ascii_digit bs)) m
+pub run_ends : (bs : List ℕ) (i m : ℕ) → i < length bs → is_ascii_digit (get_or bs i 0) ≡ false → IsRunSoFar bs i m
+    → (i ≡ length (take_while is_ascii_digit bs)) × IsSizeOf (digits_value 10 (take_while is_ascii_digit bs)) m
 run_ends bs i m l f r =
     let n = prefix_len is_ascii_digit bs in
     let e : i ≡ n = elim (cases_lt i n) [
@@ -199,7 +207,8 @@ none_zero ds size f e z n some l d = omega (arith, decimal_injective size n (ome
 
 -- ---- a spelling
 
-pub spells_negative : (bs ds : List ℕ) (size : ℕ) → ds ≡ take_while is_ascii_digit bs → size ≤ 2 ^ 63 → ds ≡ decimal size → 0 < size → SpellsNumber (45 ∷ bs) (negsuc (size - 1)) (length ds + 1)
+pub spells_negative : (bs ds : List ℕ) (size : ℕ) → ds ≡ take_while is_ascii_digit bs → size ≤ 2 ^ 63 → ds ≡ decimal size → 0 < size
+    → SpellsNumber (45 ∷ bs) (negsuc (size - 1)) (length ds + 1)
 spells_negative bs ds size run fits spelt some =
     let one : length ds + 1 ≡ suc (length (take_while is_ascii_digit bs)) = omega (arith, ap length run) in
     let number : size ≡ suc (size - 1) = omega arith in
@@ -211,7 +220,8 @@ spells_negative bs ds size run fits spelt some =
       stop = ap (λ k. is_ascii_digit (get_or (45 ∷ bs) k 0)) one ∙ after_run bs;
     }
 
-pub spells_unsigned : (bs ds : List ℕ) (size : ℕ) → get_or bs 0 0 ≢ 45 → ds ≡ take_while is_ascii_digit bs → size < 2 ^ 63 → ds ≡ decimal size → SpellsNumber bs (pos size) (length ds)
+pub spells_unsigned : (bs ds : List ℕ) (size : ℕ) → get_or bs 0 0 ≢ 45 → ds ≡ take_while is_ascii_digit bs → size < 2 ^ 63 → ds ≡ decimal size
+    → SpellsNumber bs (pos size) (length ds)
 spells_unsigned bs ds size unsigned run fits spelt =
     let front : number_front bs ≡ ds = number_front-unsigned bs unsigned ∙ sym run in
     record {
@@ -221,3 +231,30 @@ spells_unsigned bs ds size unsigned run fits spelt =
       len = ap length (sym front);
       stop = ap (λ k. is_ascii_digit (get_or bs k 0)) (ap length run) ∙ after_run bs;
     }
+
+-- ---- a short number
+
+-- a digit begins a number, where it is not 0 or no other follows
+pub begins : (bs : List ℕ) → is_ascii_digit (get_or bs 0 0) ≡ true → (get_or bs 0 0 ≡ 48 → is_ascii_digit (get_or bs 1 0) ≡ false)
+    → HasNoLeadingZero (take_while is_ascii_digit bs)
+begins [] d z = cc
+begins (b ∷ []) d z = rw (take_while-cons is_ascii_digit b [], d) (omega arith, λ e. refl)
+begins (b ∷ c ∷ cs) d z =
+    let run : take_while is_ascii_digit (b ∷ c ∷ cs) ≡ b ∷ take_while is_ascii_digit (c ∷ cs) =
+    take_while-cons is_ascii_digit b (c ∷ cs) ∙ ap (λ t. cond t (b ∷ take_while is_ascii_digit (c ∷ cs)) []) d in
+    rw run (
+      omega arith,
+      λ e.
+          let none : take_while is_ascii_digit (c ∷ cs) ≡ [] =
+          take_while-cons is_ascii_digit c cs ∙ ap (λ t. cond t (c ∷ take_while is_ascii_digit cs) []) (z e) in
+          ap (λ (l : List ℕ). suc (length l)) none,
+    )
+
+pub short_number : (bs : List ℕ) (n m : ℕ) → HasNoLeadingZero (take_while is_ascii_digit bs) → n ≡ length (take_while is_ascii_digit bs)
+    → IsSizeOf (digits_value 10 (take_while is_ascii_digit bs)) m → n ≤ 6 → m ≤ 999999 → IsShortNumber bs n m
+short_number bs n m begun len size few fits = record {
+  fits = omega arith;
+  few = few;
+  spelling = ap (λ k. take k bs) len ∙ take-length-take_while is_ascii_digit bs
+      ∙ spells_size (take_while is_ascii_digit bs) m (AllDigits-take_while bs) begun (omega arith) size;
+}

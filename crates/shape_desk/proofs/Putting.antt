@@ -2,7 +2,7 @@
 -- Which text is put for a number is no matter here.
 use Rattle.std.proofs.Common.{◌≡◌, ◌+◌, ◌≤◌, ℕ, List, ◌++◌, length, take, drop, sym, ◌∙◌, ap, subst, arith, append_assoc, length-append, drop-drop}
 use Rattle.std.proofs.lemmas.List.{length-take-le, length-drop, take-append-drop, take_at, drop_at}
-use Rattle.shape_desk.specs.Putting.{PutsAt}
+use Rattle.shape_desk.specs.Putting.{PutsAt, PutsLast}
 
 -- the same text, told otherwise
 pub PutsAt-told : {text other : List ℕ} {at : ℕ} {old new : List ℕ} {end : ℕ} → text ≡ other → PutsAt text at old new end → PutsAt other at old new end
@@ -40,3 +40,21 @@ pub PutsAt-until : {text : List ℕ} {at end : ℕ} {old new : List ℕ} (start 
 PutsAt-until {text} {at} {end} {old} {new} start is within starts before from =
     let same : start ≡ at = omega arith in
     PutsAt-between is within (subst (λ (k : ℕ). take k new ≡ take k old) same before) (subst (λ (k : ℕ). drop k new ≡ text ++ drop end old) same from)
+
+-- ---- texts that are put last
+
+pub PutsLast-at : {text : List ℕ} {at : ℕ} {old new : List ℕ} {end : ℕ} → PutsAt text at old new end → PutsLast text at old new end
+PutsLast-at p = record { place = p.place; front = p.front; same_length = p.same_length }
+
+-- the same text, told otherwise
+pub PutsLast-told : {text other : List ℕ} {at : ℕ} {old new : List ℕ} {end : ℕ} → text ≡ other → PutsLast text at old new end → PutsLast other at old new end
+PutsLast-told {at = at} {old} {new} {end} same p = subst (λ t. PutsLast t at old new end) same p
+
+-- a text, and another behind it
+pub PutsLast-more : {a b : List ℕ} {at : ℕ} {old mid new : List ℕ} {m end : ℕ} → PutsLast a at old mid m → PutsLast b m mid new end
+    → PutsLast (a ++ b) at old new end
+PutsLast-more {a} {b} {at} {old} {mid} {new} {m} {end} p q = record {
+  place = omega (arith, p.place, q.place, length-append a b);
+  front = q.front ∙ ap (λ xs. xs ++ b) p.front ∙ append_assoc (take at old) a b;
+  same_length = q.same_length ∙ p.same_length;
+}

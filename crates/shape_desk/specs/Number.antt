@@ -1,5 +1,6 @@
 -- Decimal numbers at the front of bytes: an optional minus sign and digits.
-use Rattle.std.specs.Prelude.{◌≡◌, ◌≢◌, ◌==◌, ◌<◌, ◌≤◌, ◌^◌, ℕ, false, List, [], ◌∷◌, length, get_or, take, drop, take_while, if◌then◌else◌, Option, None, Some, ℤ, FitsSigned}
+use Rattle.std.specs.Prelude.{◌≡◌, ◌≢◌, ◌==◌, ◌<◌, ◌≤◌, ◌^◌, ℕ, false, List, [], ◌∷◌, length, get_or, take, drop, take_while, if◌then◌else◌, Option, None, Some}
+use Rattle.std.specs.Prelude.{ℤ, FitsSigned}
 use Rattle.std.specs.Int.{w64}
 use Rattle.std.specs.Char.{is_ascii_digit}
 use Rattle.std.specs.List.{prefix_len}
@@ -43,3 +44,9 @@ pub record SpellsNumber (bytes : List ℕ) (z : ℤ) (n : ℕ) : Type 0 where
 abbrev pub ReadsNumber : List ℕ → Option (ℤ × ℕ) → Type 0
 ReadsNumber bytes None = (z : ℤ) → FitsSigned w64 z → number_front bytes ≢ signed_decimal z
 ReadsNumber bytes (Some a) = SpellsNumber bytes a.0 a.1
+
+-- the first n bytes, at most six, are the decimal spelling of m
+pub record IsShortNumber (bytes : List ℕ) (n m : ℕ) : Type 0 where
+  pub fits : m < 1000000
+  pub few : n ≤ 6
+  pub spelling : take n bytes ≡ decimal m

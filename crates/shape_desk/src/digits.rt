@@ -1,9 +1,10 @@
-//! The digits of a number, put right where they are to stand: of a short one digit by digit, of a longer one by the crate `itoa`.
-//! It puts them from the last on, so it is told where they end; how they are counted may be changed here.
+//! The digits of a number, put right where they are to stand: of a short one from a table, of a longer one by the crate `itoa`.
+//! That puts them from the last on, so it is told where they end; how they are counted may be changed here.
 ghost use Rattle.std.specs.Prelude.{◌≡◌, ◌≤◌, ◌<◌, ◌+◌, ◌/◌, ◌%◌, [], ◌∷◌, length};
 ghost use Rattle.std.specs.Fmt.{decimal};
-ghost use Rattle.shape_desk.specs.Putting.{PutsAt};
+ghost use Rattle.shape_desk.specs.Putting.{PutsAt, PutsLast};
 
+use crate::rows::put_row;
 use itoa::write_digits;
 
 // Puts the digits of a number, of which there are so many, and answers the place after them.
@@ -18,49 +19,29 @@ fn put_counted(n: u64, count: usize, buf: &mut [u8], at: usize) -> usize
     end
 }
 
-// Puts a digit at a place of the buffer, and answers the place after it.
+// Puts a digit last in a buffer, and answers the place after it.
 #[inline(always)]
 fn put_digit(d: u64, buf: &mut [u8], at: usize) -> usize
     requires digit { d < 10 }
     requires room { at + 1 ≤ length buf.old }
-    ensures put { PutsAt ((48 + d) ∷ []) at buf.old buf.new result }
+    ensures put { PutsLast ((48 + d) ∷ []) at buf.old buf.new result }
 {
     buf[at] = b'0' + d as u8;
     at + 1
 }
 
-// Puts both digits of a number below 100, the first of which may be 0, and answers the place after them.
+// Puts a blank and the digits of a number of four digits last in a buffer, and answers the place after them: the first three
+// have a row in the table.
 #[inline(always)]
-fn put_pair(n: u64, buf: &mut [u8], at: usize) -> usize
-    requires short { n < 100 }
-    requires room { at + 2 ≤ length buf.old }
-    ensures put { PutsAt ((48 + n / 10) ∷ (48 + n % 10) ∷ []) at buf.old buf.new result }
-{
-    let end = put_digit(n / 10, buf, at);
-    put_digit(n % 10, buf, end)
-}
-
-// Puts the digits of a number below 10000 at a place of the buffer, and answers the place after them. Most numbers of a
-// report are as short, and a digit of them costs less than a call.
-#[inline(always)]
-pub(crate) fn put_short(n: u64, buf: &mut [u8], at: usize) -> usize
+pub(crate) fn put_four(n: u64, buf: &mut [u8], at: usize) -> usize
+    requires four { 1000 ≤ n }
     requires short { n < 10000 }
-    requires room { at + 4 ≤ length buf.old }
-    ensures put { PutsAt (decimal n) at buf.old buf.new result }
-    ensures few { result ≤ at + 4 }
+    requires room { at + 5 ≤ length buf.old }
+    ensures put { PutsLast (32 ∷ decimal n) at buf.old buf.new result }
+    ensures few { result ≤ at + 5 }
 {
-    if n < 10 {
-        return put_digit(n, buf, at);
-    }
-    if n < 100 {
-        return put_pair(n, buf, at);
-    }
-    if n < 1000 {
-        let end = put_digit(n / 100, buf, at);
-        return put_pair(n % 100, buf, end);
-    }
-    let end = put_pair(n / 100, buf, at);
-    put_pair(n % 100, buf, end)
+    let end = put_row(n / 10, buf, at);
+    put_digit(n % 10, buf, end)
 }
 
 // How many digits a number below 10000 has.

@@ -1,6 +1,7 @@
--- The values of a framed box, one more at a time, and the rows of a box as parts of its lines.
+-- The values of a framed box, run after run, and the rows of a box as parts of its lines.
 -- Laws over pictures, values and numbers alone.
-use Rattle.std.proofs.Common.{◌≡◌, inl, inr, ℕ, ◌+◌, ◌-◌, ◌*◌, ◌<◌, ◌≤◌, Bool, nat_lt, true, false, List, [], ◌∷◌, length, set, replicate, get_or, get_or-set_same, get_or-set_other, length-set, refl, sym, ap, ◌∙◌, subst, below_more, arith}
+use Rattle.std.proofs.Common.{◌≡◌, inl, inr, ℕ, ◌+◌, ◌-◌, ◌*◌, ◌<◌, ◌≤◌, Bool, nat_lt, true, false, List, [], ◌∷◌, length, set, replicate, get_or}
+use Rattle.std.proofs.Common.{refl, sym, ap, ◌∙◌, subst, arith}
 use Rattle.std.specs.Prelude.{ℤ, pos, negsuc, ◌-ℤ◌, IsTrue, ◌&&◌}
 use Rattle.std.proofs.lemmas.Int.{ints}
 use Rattle.std.proofs.lemmas.Bool.{cases_lt, ltb-false, cases_Bool, and_parts}
@@ -10,10 +11,12 @@ use Rattle.shape_terms.specs.Points.{Point, in_box, box_count, raster_number, ra
 use Rattle.shape_terms.specs.Pictures.{Picture, at}
 use Rattle.shape_terms.specs.FramedBox.{framed_sides, framed_point}
 use Rattle.shape_terms.proofs.Boxes.{mod_of, div_of, raster_below, raster_point-raster_number}
+use Rattle.shape_terms.proofs.BoxLists.{at_raster_point}
+use Rattle.shape_grid.specs.Runs.{IsFilled}
 use Rattle.shape_dist.specs.FirstAxis.{line_length, IsLine}
 use Rattle.shape_dist.specs.Objects.{AreValuesTo}
 
--- ---- one value more
+-- ---- before any run
 
 pub no_value : (X : Picture) (values : List Bool) (n : ℕ) → values ≡ replicate n false → n ≡ box_count (framed_sides X.sides) → AreValuesTo X 0 values
 no_value X values n e l = record {
@@ -28,23 +31,6 @@ no_value X values n e l = record {
       | inr k ↦ get_or_past (replicate n false) i false (omega (arith, length-replicate n false))
     ]
 
-pub object_more : (X : Picture) (n : ℕ) (values : List Bool) → n < box_count (framed_sides X.sides) → at X (framed_point X.sides n) ≡ true
-    → AreValuesTo X n values → AreValuesTo X (n + 1) (set values n true)
-object_more X n values l here t = record {
-  long = length-set values n true ∙ t.long;
-  each = below_more (λ i. get_or (set values n true) i false ≡ at X (framed_point X.sides i)) n
-      (λ i k. get_or-set_other values n i true false (omega arith) ∙ t.each i k)
-      (get_or-set_same values n true false (omega (arith, t.long)) ∙ sym here);
-  rest = λ i k. get_or-set_other values n i true false (omega arith) ∙ t.rest i (omega arith);
-}
-
-pub bare_more : (X : Picture) (n : ℕ) (values : List Bool) → at X (framed_point X.sides n) ≡ false → AreValuesTo X n values → AreValuesTo X (n + 1) values
-bare_more X n values here t = record {
-  long = t.long;
-  each = below_more (λ i. get_or values i false ≡ at X (framed_point X.sides i)) n t.each (t.rest n (omega arith) ∙ sym here);
-  rest = λ i k. t.rest i (omega arith);
-}
-
 pub bare_line : (X : Picture) (n w : ℕ) (values : List Bool) → ((x : ℕ) → x < w → at X (framed_point X.sides (n + x)) ≡ false)
     → AreValuesTo X n values → AreValuesTo X (n + w) values
 bare_line X n w values bare t = record {
@@ -57,6 +43,39 @@ bare_line X n w values bare t = record {
   ];
   rest = λ i k. t.rest i (omega arith);
 }
+
+-- ---- runs of a row
+
+module _ (X : Picture) (start place n : ℕ) (row : (x : ℕ) → x < n → raster_point X.sides (start + x) ≡ framed_point X.sides (place + x))
+    (inside : start + n ≤ box_count X.sides) where
+  -- the value of a place of the row
+  value_there : (x : ℕ) → x < n → at X (framed_point X.sides (place + x)) ≡ get_or X.values (start + x) false
+  value_there x l = ap (at X) (sym (row x l)) ∙ at_raster_point X (start + x) (omega arith)
+
+  pub falses_passed : (x from : ℕ) (values : List Bool) → x ≤ from → from ≤ n
+      → ((i : ℕ) → start + x ≤ i → i < start + from → get_or X.values i false ≡ false) → AreValuesTo X (place + x) values
+      → AreValuesTo X (place + from) values
+  falses_passed x from values l h none t =
+      let e : place + x + (from - x) ≡ place + from = omega arith in
+      subst (λ m. AreValuesTo X m values) e (bare_line X (place + x) (from - x) values
+      (λ y k.
+      let there : place + (x + y) ≡ place + x + y = omega arith in
+      ap (λ m. at X (framed_point X.sides m)) (sym there) ∙ value_there (x + y) (omega arith) ∙ none (start + (x + y)) (omega arith) (omega arith)) t)
+
+  pub trues_filled : (from until : ℕ) (old new : List Bool) → from ≤ until → until ≤ n
+      → ((i : ℕ) → start + from ≤ i → i < start + until → get_or X.values i false ≡ true) → IsFilled old new (place + from) (place + until) true
+      → AreValuesTo X (place + from) old → AreValuesTo X (place + until) new
+  trues_filled from until old new l h all filled t = record {
+    long = filled.room ∙ t.long;
+    each = λ i k. elim (cases_lt i (place + from)) [
+      | inl low ↦ filled.before i low ∙ t.each i low
+      | inr on ↦
+          let e : place + (i - place) ≡ i = omega arith in
+          let there = value_there (i - place) (omega arith) ∙ all (start + (i - place)) (omega arith) (omega arith) in
+          filled.inside i on k ∙ sym (subst (λ j. at X (framed_point X.sides j) ≡ true) e there)
+    ];
+    rest = λ i k. filled.behind i k ∙ t.rest i (omega arith);
+  }
 
 -- ---- the row of the box on a line
 

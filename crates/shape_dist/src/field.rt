@@ -7,6 +7,7 @@ ghost use Rattle.shape_terms.specs.Pictures.{Least};
 ghost use Rattle.shape_terms.specs.FramedBox.{framed_sides, framed_point, IsWithin};
 ghost use Rattle.shape_terms.specs.AxisLines.{apart};
 ghost use Rattle.shape_terms.specs.Distances.{IsField, IsFramed};
+ghost use Rattle.shape_dist.specs.Keepings.{point_keeping};
 ghost use Rattle.shape_dist.specs.Spreads.{AreNearestOn};
 
 use crate::axes::cells_of;
@@ -55,7 +56,8 @@ impl<P: Point> Model for Field<P> {
 fn kept_of<P: Point>(grid: &Grid<P>, cells: &Cells<Found>, p: P) -> Kept
     requires inside { IsTrue (in_box grid.now.sides (P.coords p)) }
     requires long { length cells.now.values ≡ box_count (framed_sides grid.now.sides) }
-    requires near { AreNearestOn grid.now (box_count (framed_sides grid.now.sides)) cells.now.values }
+    requires near { AreNearestOn point_keeping grid.now
+        (box_count (framed_sides grid.now.sides)) cells.now.values }
     ensures point { framed_point grid.now.sides result.p ≡ P.coords p }
     ensures least { Least grid.now (P.coords p) (framed_point grid.now.sides result.q)
         (apart grid.now.sides result.p result.q) }
@@ -76,7 +78,8 @@ fn collected<P: Point>(
     cells: &Cells<Found>,
 ) -> Result<Field<P>, NoMemory>
     requires long { length cells.now.values ≡ box_count (framed_sides grid.now.sides) }
-    requires near { AreNearestOn grid.now (box_count (framed_sides grid.now.sides)) cells.now.values }
+    requires near { AreNearestOn point_keeping grid.now
+        (box_count (framed_sides grid.now.sides)) cells.now.values }
     ensures field { IfOk result (IsField grid.now) }
     ensures framed { IfOk result (All IsFramed) }
 {
@@ -96,7 +99,7 @@ pub fn nearest<P: Point>(alloc: Global, grid: &Grid<P>) -> Result<Field<P>, NoMe
     ensures field { IfOk result (IsField grid.now) }
     ensures framed { IfOk result (All IsFramed) }
 {
-    let cells = cells_of(alloc, grid)?;
+    let cells = cells_of::<P, Found>(alloc, grid)?;
     collected(alloc, grid, &cells)
 }
 

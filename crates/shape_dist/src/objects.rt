@@ -22,10 +22,14 @@ fn mark_row<P: Point>(grid: &Grid<P>, objects: &mut Bits, place: u32, start: u32
     ensures { AreValuesTo grid.now (place + n) objects.new }
 {
     grid.is_picture();
-    for x in 0..n {
-        if grid.has_number(start + x) {
-            objects.set((place + x) as usize);
-        }
+    let values = grid.values();
+    let mut x = 0;
+    while x < n {
+        let from = values.end_of_falses((start + x) as usize, (start + n) as usize) as u32 - start;
+        let until = values.end_of_trues((start + from) as usize, (start + n) as usize) as u32
+            - start;
+        objects.set_all((place + from) as usize, (place + until) as usize);
+        x = until;
     }
 }
 

@@ -5,6 +5,7 @@ ghost use Rattle.shape_terms.specs.Points.{box_count, raster_point};
 ghost use Rattle.shape_terms.specs.Pictures.{Least};
 ghost use Rattle.shape_terms.specs.FramedBox.{framed_sides, framed_point};
 ghost use Rattle.shape_terms.specs.Distances.{AreDistances, AreFeatures};
+ghost use Rattle.shape_dist.specs.Keepings.{point_keeping};
 ghost use Rattle.shape_dist.specs.Spreads.{AreNearestOn};
 
 use crate::axes::cells_of;
@@ -30,7 +31,8 @@ pub struct Surveyed<P: Point> {
 fn found_at<P: Point>(grid: &Grid<P>, cells: &Cells<Found>, i: u32) -> Found
     requires inside { i < box_count grid.now.sides }
     requires long { length cells.now.values ≡ box_count (framed_sides grid.now.sides) }
-    requires near { AreNearestOn grid.now (box_count (framed_sides grid.now.sides)) cells.now.values }
+    requires near { AreNearestOn point_keeping grid.now
+        (box_count (framed_sides grid.now.sides)) cells.now.values }
     ensures { Least grid.now (raster_point grid.now.sides i)
         (framed_point grid.now.sides result.q) result.s }
 {
@@ -45,7 +47,8 @@ fn told<P: Point>(
     cells: &Cells<Found>,
 ) -> Result<Surveyed<P>, NoMemory>
     requires long { length cells.now.values ≡ box_count (framed_sides grid.now.sides) }
-    requires near { AreNearestOn grid.now (box_count (framed_sides grid.now.sides)) cells.now.values }
+    requires near { AreNearestOn point_keeping grid.now
+        (box_count (framed_sides grid.now.sides)) cells.now.values }
     ensures features { IfOk result (λ s. AreFeatures grid.now s.features) }
     ensures distances { IfOk result (λ s. AreDistances grid.now s.distances.values) }
 {
@@ -76,6 +79,6 @@ pub fn survey<P: Point>(alloc: Global, grid: &Grid<P>) -> Result<Surveyed<P>, No
     ensures features { IfOk result (λ s. AreFeatures grid.now s.features) }
     ensures distances { IfOk result (λ s. AreDistances grid.now s.distances.values) }
 {
-    let cells = cells_of(alloc, grid)?;
+    let cells = cells_of::<P, Found>(alloc, grid)?;
     told(alloc, grid, &cells)
 }

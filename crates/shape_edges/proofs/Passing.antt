@@ -10,11 +10,11 @@ use Rattle.shape_terms.specs.RunWalks.{IsWalk}
 use Rattle.shape_terms.proofs.WalkSteps.{walk_goes_on}
 use Rattle.edge_terms.specs.EdgeWalks.{edge_walk}
 use Rattle.edge_terms.proofs.EdgeWalks.{walk_is_cover}
-use Rattle.edge_forms.specs.Lines.{standard_of}
-use Rattle.edge_forms.specs.declared.arc.Arc.{Arc}
+use Rattle.judge_edges.specs.Lines.{standard_of}
+use Rattle.judge_edges.specs.declared.arc.Arc.{Arc}
 use Rattle.shape_edges.specs.declared.entry.Entry.{Entry}
 use Rattle.shape_edges.specs.declared.walk.Passed.{Passed}
-use Rattle.edge_forms.specs.Arcs.{stretch_of}
+use Rattle.judge_edges.specs.Arcs.{stretch_of}
 use Rattle.shape_edges.specs.Entries.{found_of}
 use Rattle.shape_edges.specs.Searches.{IsReach, IsPassed}
 use Rattle.shape_edges.proofs.Searching.{reach_longest}

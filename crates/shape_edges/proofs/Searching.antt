@@ -13,11 +13,11 @@ use Rattle.shape_terms.proofs.RunArcs.{run_arcs}
 use Rattle.edge_terms.proofs.EdgeCoverOf.{edge_straightness}
 use Rattle.edge_terms.proofs.EdgeExcludes.{evidence_excludes}
 use Rattle.edge_terms.proofs.ShortEdges.{short_edge}
-use Rattle.edge_forms.specs.Lines.{standard_of}
-use Rattle.edge_forms.specs.Gaps.{gap_of}
+use Rattle.judge_edges.specs.Lines.{standard_of}
+use Rattle.judge_edges.specs.Gaps.{gap_of}
 use Rattle.shape_edges.specs.declared.grow.Grown.{Grown}
-use Rattle.edge_forms.specs.declared.arc.Arc.{Arc}
-use Rattle.edge_forms.specs.Arcs.{stretch_of}
+use Rattle.judge_edges.specs.declared.arc.Arc.{Arc}
+use Rattle.judge_edges.specs.Arcs.{stretch_of}
 use Rattle.shape_edges.specs.Searches.{IsForward, IsBack, IsReach}
 use Rattle.shape_edges.proofs.PathSteps.{taken_straight}
 
@@ -33,7 +33,8 @@ reach_longest path a h = record { straight = reach_straight path a h; longest = 
 
 module _ (path : List Point) (is : IsCornerPath path) where
   -- a run that was grown makes the reach
-  pub reaches : (first : ℕ) (g : Grown) (a : Arc) → IsForward path first g → a.first ≡ first → a.last ≡ g.place → IsHeld (arc path first g.place) (standard_of a.line) → IsReach path a
+  pub reaches : (first : ℕ) (g : Grown) (a : Arc) → IsForward path first g → a.first ≡ first → a.last ≡ g.place
+      → IsHeld (arc path first g.place) (standard_of a.line) → IsReach path a
   reaches first g a h e f held =
       let rises = h.rises in
       let short = short_edge path is.some first g.place (taken_straight path is first g.place g.edge h.taken) in
@@ -45,7 +46,8 @@ module _ (path : List Point) (is : IsCornerPath path) where
       }
 
   -- what is grown on from the place before the next start ends with the arc, and shows that the gap is not straight
-  pub gap_from : (a : Arc) (b : ℕ) (g : Grown) → IsReach path a → IsBack path a.first (a.last + 1) b → IsForward path (b - 1) g → IsGap (arc path (b - 1) (a.last + 1)) (gap_of g.gap)
+  pub gap_from : (a : Arc) (b : ℕ) (g : Grown) → IsReach path a → IsBack path a.first (a.last + 1) b → IsForward path (b - 1) g
+      → IsGap (arc path (b - 1) (a.last + 1)) (gap_of g.gap)
   gap_from a b g r k h = subst (λ e. IsGap (arc path (b - 1) (e + 1)) (gap_of g.gap)) ends h.gap
     where
       ends : g.place ≡ a.last
@@ -54,11 +56,14 @@ module _ (path : List Point) (is : IsCornerPath path) where
           let near = k.near in
           let rises = h.rises in
           let low : a.last ≤ g.place = elim (dec_lt g.place a.last) [
-            | yes l ↦ absurd (evidence_excludes (arc path (b - 1) (g.place + 1)) (gap_of g.gap) h.gap.shows (part_arc path a.first a.last (b - 1) (g.place + 1) (reach_straight path a r) (omega arith) (omega arith) (omega arith)))
+            | yes l ↦ absurd (evidence_excludes (arc path (b - 1) (g.place + 1)) (gap_of g.gap) h.gap.shows
+                (part_arc path a.first a.last (b - 1) (g.place + 1) (reach_straight path a r) (omega arith) (omega arith) (omega arith)))
             | no l ↦ omega arith
           ] in
           let high : g.place ≤ a.last = elim (dec_lt a.last g.place) [
-            | yes l ↦ absurd (k.bent (part_arc path (b - 1) g.place (b - 1) (a.last + 1) (taken_straight path is (b - 1) g.place g.edge h.taken) (omega arith) (omega arith) (omega arith)))
+            | yes l ↦ absurd (k.bent
+                (part_arc path (b - 1) g.place (b - 1) (a.last + 1) (taken_straight path is (b - 1) g.place g.edge h.taken) (omega arith) (omega arith)
+                (omega arith)))
             | no l ↦ omega arith
           ] in
           omega arith

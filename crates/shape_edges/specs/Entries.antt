@@ -1,9 +1,9 @@
 -- The program's arcs as the arcs of the terms.
 -- How they are kept belongs elsewhere.
 use Rattle.edge_terms.specs.EdgeCovers.{Arc as Term}
-use Rattle.edge_forms.specs.Lines.{standard_of}
-use Rattle.edge_forms.specs.Gaps.{gap_of}
-use Rattle.edge_forms.specs.Arcs.{stretch_of}
+use Rattle.judge_edges.specs.Lines.{standard_of}
+use Rattle.judge_edges.specs.Gaps.{gap_of}
+use Rattle.judge_edges.specs.Arcs.{stretch_of}
 use Rattle.shape_edges.specs.declared.entry.Entry.{Entry}
 
 -- what an entry tells

@@ -7,15 +7,15 @@ use Rattle.shape_terms.specs.RunWalks.{IsFollowedBy}
 use Rattle.edge_terms.specs.EdgeStraight.{IsEdgeStraight}
 use Rattle.edge_terms.specs.EdgeCovers.{IsHeld, IsGap}
 use Rattle.edge_terms.specs.EdgeWalks.{edge_walk}
-use Rattle.edge_forms.specs.Lines.{standard_of}
-use Rattle.edge_forms.specs.Gaps.{gap_of}
+use Rattle.judge_edges.specs.Lines.{standard_of}
+use Rattle.judge_edges.specs.Gaps.{gap_of}
 use Rattle.shape_edges.specs.declared.grow.Grown.{Grown}
-use Rattle.edge_forms.specs.declared.arc.Arc.{Arc}
+use Rattle.judge_edges.specs.declared.arc.Arc.{Arc}
 use Rattle.shape_edges.specs.declared.start.NextStart.{NextStart}
 use Rattle.shape_edges.specs.declared.walk.Passed.{Passed}
 use Rattle.shape_edges.specs.declared.entry.Entry.{Entry}
 use Rattle.shape_edges.specs.Edges.{Takes}
-use Rattle.edge_forms.specs.Arcs.{stretch_of}
+use Rattle.judge_edges.specs.Arcs.{stretch_of}
 use Rattle.shape_edges.specs.Entries.{found_of}
 
 -- a straight run from a place on, and why it is not straight with one place more

@@ -1,6 +1,6 @@
 //! What a cover keeps of one arc.
 //! How arcs are found belongs elsewhere.
-use edge_forms::{Arc, EdgeGap};
+use judge_edges::{Arc, EdgeGap};
 
 /// An arc, and why the gap after it is not straight.
 #[derive(Clone, Copy)]

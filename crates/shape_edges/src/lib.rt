@@ -15,7 +15,7 @@ mod report;
 mod start;
 mod walk;
 
-pub use edge_forms::{Arc, EdgeGap, Standard};
+pub use judge_edges::{Arc, EdgeGap, Standard};
 pub use list::EdgeCover;
 pub use report::edges;
 pub use walk::edge_cover;

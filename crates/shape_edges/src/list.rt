@@ -2,13 +2,13 @@
 //! Another way of keeping the arcs and the gaps changes nothing outside this file.
 ghost use Rattle.std.specs.Prelude.{◌≡◌, ◌<◌, ◌^◌, length, map};
 ghost use Rattle.edge_terms.specs.EdgeCovers.{arc_in};
-ghost use Rattle.edge_forms.specs.Lines.{standard_of};
-ghost use Rattle.edge_forms.specs.Gaps.{gap_of};
-ghost use Rattle.edge_forms.specs.Arcs.{stretch_of};
+ghost use Rattle.judge_edges.specs.Lines.{standard_of};
+ghost use Rattle.judge_edges.specs.Gaps.{gap_of};
+ghost use Rattle.judge_edges.specs.Arcs.{stretch_of};
 ghost use Rattle.shape_edges.specs.Entries.{found_of};
 
 use crate::entry::Entry;
-use edge_forms::{Arc, EdgeGap};
+use judge_edges::{Arc, EdgeGap};
 use std::marker::Model;
 
 /// The maximal straight runs of a corner path by rising places, each with a standard line and with the evidence for the gap after it.

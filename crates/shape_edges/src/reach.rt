@@ -5,7 +5,7 @@ ghost use Rattle.shape_terms.specs.Limits.{most_round};
 ghost use Rattle.shape_edges.specs.Searches.{IsReach};
 
 use crate::grow::forward;
-use edge_forms::{Arc, Corners};
+use judge_edges::{Arc, Corners};
 
 /// The longest straight run from a place on.
 pub fn longest_from(path: &Corners, first: u32) -> Arc

@@ -1,5 +1,5 @@
 //! The edge report of a picture, as it is built: its sides, then each cycle with its arcs and the evidence for its gaps, and the end.
-//! What is found of a cycle comes from `walk`; how a line is spelled, `edge_forms` says.
+//! What is found of a cycle comes from `walk`; how a line is spelled, `judge_edges` says.
 ghost use Rattle.std.specs.Prelude.{◌≡◌, ◌<◌, ◌+◌, ℕ, [], IfOk, OnOk, length};
 ghost use Rattle.shape_terms.specs.Pictures.{Picture};
 ghost use Rattle.shape_terms.specs.Contours.{Crack as Term};
@@ -11,7 +11,7 @@ ghost use Rattle.shape_edges.specs.Growing.{Tells, HasTold, IsFoundAt, IsSomeCov
 
 use crate::list::EdgeCover;
 use crate::walk::edge_cover;
-use edge_forms::{EdgeLine, flat_sides};
+use judge_edges::{EdgeLine, flat_sides};
 use report_text::Report;
 use shape_crack::{Contours, Crack, contours};
 use shape_grid::Grid;

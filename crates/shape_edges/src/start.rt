@@ -6,7 +6,7 @@ ghost use Rattle.shape_edges.specs.Searches.{IsReach, IsNextStart};
 
 use crate::back::backward;
 use crate::grow::forward;
-use edge_forms::{Arc, Corners, EdgeGap};
+use judge_edges::{Arc, Corners, EdgeGap};
 
 /// A place from which the run to the place after an arc is straight, and why it is not from the place before.
 #[derive(Clone, Copy)]

@@ -7,7 +7,7 @@ ghost use Rattle.shape_terms.specs.RunWalks.{IsStart};
 ghost use Rattle.edge_terms.specs.EdgeCovers.{IsEdgeCover, IsEdgeCoverFrom};
 ghost use Rattle.edge_terms.specs.EdgeStraight.{IsEdgeStraight};
 ghost use Rattle.shape_crack.specs.Terms.{crack_of};
-ghost use Rattle.edge_forms.specs.Arcs.{stretch_of};
+ghost use Rattle.judge_edges.specs.Arcs.{stretch_of};
 ghost use Rattle.shape_edges.specs.Entries.{found_of};
 ghost use Rattle.shape_edges.specs.Searches.{IsReach, IsPassed, HasPassed};
 
@@ -16,7 +16,7 @@ use crate::list::EdgeCover;
 use crate::push::put_last;
 use crate::reach::longest_from;
 use crate::start::next_start;
-use edge_forms::{Arc, Corners, corner_path};
+use judge_edges::{Arc, Corners, corner_path};
 use shape_crack::Crack;
 use shape_grid::Grid;
 use shape_space::{NoMemory, P2};

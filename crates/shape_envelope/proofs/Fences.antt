@@ -57,7 +57,8 @@ pub record IsPart (holds : ℕ → ℕ → Type 0) (w a b : ℕ) : Type 0 where
   pub last : (z : ℕ) → z + 1 ≡ b → b < w → holds z 0
 
 -- what is least in the part is least in the line
-pub part_least : (holds : ℕ → ℕ → Type 0) (w a b x s : ℕ) → IsPart holds w a b → a + x < b → ((y h : ℕ) → y < b - a → holds (a + y) h → s ≤ h + gap x y * gap x y) → (z h : ℕ) → z < w → holds z h → s ≤ h + gap (a + x) z * gap (a + x) z
+pub part_least : (holds : ℕ → ℕ → Type 0) (w a b x s : ℕ) → IsPart holds w a b → a + x < b
+    → ((y h : ℕ) → y < b - a → holds (a + y) h → s ≤ h + gap x y * gap x y) → (z h : ℕ) → z < w → holds z h → s ≤ h + gap (a + x) z * gap (a + x) z
 part_least holds w a b x s p inside least z h l there =
     let some = p.some in
     let in_part : (y h : ℕ) → a ≤ y → y < b → holds y h → s ≤ h + gap (a + x) y * gap (a + x) y =
@@ -70,6 +71,10 @@ part_least holds w a b x s p inside least z h l there =
       | inl low ↦ omega (arith, in_part a 0 (omega arith) some (p.first (omega arith)), farther_down (a + x) a z (omega arith) (omega arith))
       | inr from ↦ elim (cases_lt z b) [
         | inl below ↦ in_part z h from below there
-        | inr high ↦ omega (arith, in_part (b - 1) 0 (omega arith) (omega arith) (p.last (b - 1) (omega arith) (omega arith)), farther_up (a + x) (b - 1) z (omega arith) (omega arith))
+        | inr high ↦ omega (
+          arith,
+          in_part (b - 1) 0 (omega arith) (omega arith) (p.last (b - 1) (omega arith) (omega arith)),
+          farther_up (a + x) (b - 1) z (omega arith) (omega arith),
+        )
       ]
     ]

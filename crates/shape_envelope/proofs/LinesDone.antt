@@ -58,7 +58,8 @@ module _ {A : Type 0} (R : (ℕ → A) → ℕ → A → Type 0) (d : A) (w : �
     other_line i x apart l = others (i * w + x) (λ z h e. apart (same_from_place i x n z w l h (omega (arith, e))).0)
 
     -- one line of a block more
-    pub line_done : ((x : ℕ) → x < w → R (λ y. get_or first (n * w + y) d) x (get_or new (n * w + x) d)) → AreLinesDone n first block → AreLinesDone (n + 1) first new
+    pub line_done : ((x : ℕ) → x < w → R (λ y. get_or first (n * w + y) d) x (get_or new (n * w + x) d)) → AreLinesDone n first block
+        → AreLinesDone (n + 1) first new
     line_done here before i x l h = below_more (λ i. R (λ y. get_or first (i * w + y) d) x (get_or new (i * w + x) d)) n
         (λ i m. subst (R (λ y. get_or first (i * w + y) d) x) (sym (other_line i x (λ e. omega arith) h)) (before i x m h))
         (here x h) i l
@@ -71,7 +72,8 @@ module _ {A : Type 0} (R : (ℕ → A) → ℕ → A → Type 0) (d : A) (w : �
   module _ (c rows t lines : ℕ) (old mid new : List A) (l : t < c * rows) (beside : t % c + lines ≤ c)
       (others : (i : ℕ) → ((j x : ℕ) → j < lines → x < w → i ≡ line_from c w t + x * c + j → ⊥) → get_or new i d ≡ get_or mid i d) where
     -- the place of a line that is not among them is as before
-    off_lines : (low x high : ℕ) → low < c → x < w → (low + c * high < t) ⊎ (t + lines ≤ low + c * high) → get_or new (place c w low x high) d ≡ get_or mid (place c w low x high) d
+    off_lines : (low x high : ℕ) → low < c → x < w → (low + c * high < t) ⊎ (t + lines ≤ low + c * high)
+        → get_or new (place c w low x high) d ≡ get_or mid (place c w low x high) d
     off_lines low x high h k out = others (place c w low x high) (λ j y m n e.
         let q = same_place c w low x high (t % c + j) y (t / c) h (omega arith) k n (e ∙ place_beside c w t y j) in
         let at : low + c * high ≡ t % c + j + c * (t / c) = ap (λ n. n + c * high) q.0 ∙ ap (λ n. t % c + j + c * n) q.2 in

@@ -12,20 +12,23 @@ use Rattle.shape_terms.proofs.Parabolas.{better_from, better_before}
 
 -- ---- the last part
 
-pub last_lowest : (row : List (Option ℕ)) (places starts : List ℕ) (m j e k : ℕ) → AreParts row places starts m j e → m ≡ k + 1 → (x : ℕ) → get_or starts k 0 ≤ x → x < e → IsLowestBefore row j x (get_or places k 0)
+pub last_lowest : (row : List (Option ℕ)) (places starts : List ℕ) (m j e k : ℕ) → AreParts row places starts m j e → m ≡ k + 1 → (x : ℕ)
+    → get_or starts k 0 ≤ x → x < e → IsLowestBefore row j x (get_or places k 0)
 last_lowest row places starts m j e k p is x l h = p.lowest k x (omega arith) l h (λ more. absurd (omega arith))
 
 some_is : {A : Type 0} (o : Option A) (x : A) → o ≡ Some x → IsSome o
 some_is o x e = rw e refl
 
-pub last_place : (row : List (Option ℕ)) (places starts : List ℕ) (m j e k : ℕ) → AreParts row places starts m j e → m ≡ k + 1 → IsSome (cell row (get_or places k 0)) × (get_or places k 0 < j)
+pub last_place : (row : List (Option ℕ)) (places starts : List ℕ) (m j e k : ℕ) → AreParts row places starts m j e → m ≡ k + 1
+    → IsSome (cell row (get_or places k 0)) × (get_or places k 0 < j)
 last_place row places starts m j e k p is =
     let t = last_lowest row places starts m j e k p is (get_or starts k 0) (omega arith) (p.below k (omega arith)) in
     (some_is (cell row (get_or places k 0)) t.f t.filled, t.before)
 
 -- ---- more places
 
-one_more : (row : List (Option ℕ)) (j x i : ℕ) (t : IsLowestBefore row j x i) → ((g : ℕ) → cell row j ≡ Some g → height t.f i (pos x) ≤ height g j (pos x)) → IsLowestBefore row (j + 1) x i
+one_more : (row : List (Option ℕ)) (j x i : ℕ) (t : IsLowestBefore row j x i) → ((g : ℕ) → cell row j ≡ Some g → height t.f i (pos x) ≤ height g j (pos x))
+    → IsLowestBefore row (j + 1) x i
 one_more row j x i t h = record {
   f = t.f;
   filled = t.filled;
@@ -37,7 +40,8 @@ one_more row j x i t h = record {
 }
 
 -- an empty cell changes nothing
-empty_more : (row : List (Option ℕ)) (places starts : List ℕ) (m j e : ℕ) → cell row j ≡ None → AreParts row places starts m j e → AreParts row places starts m (j + 1) e
+empty_more : (row : List (Option ℕ)) (places starts : List ℕ) (m j e : ℕ) → cell row j ≡ None → AreParts row places starts m j e
+    → AreParts row places starts m (j + 1) e
 empty_more row places starts m j e none p = record {
   first = p.first;
   rising = p.rising;
@@ -45,7 +49,8 @@ empty_more row places starts m j e none p = record {
   lowest = λ k x l a b c. one_more row j x (get_or places k 0) (p.lowest k x l a b c) (λ g is. cc);
 }
 
-pub built_empty : (row : List (Option ℕ)) (places starts : List ℕ) (m j n : ℕ) → cell row j ≡ None → AreBuilt row places starts m j n → AreBuilt row places starts m (j + 1) n
+pub built_empty : (row : List (Option ℕ)) (places starts : List ℕ) (m j n : ℕ) → cell row j ≡ None → AreBuilt row places starts m j n
+    → AreBuilt row places starts m (j + 1) n
 built_empty row places starts m j n none b = record {
   parts = empty_more row places starts m j n none b.parts;
   few = omega (arith, b.few);
@@ -58,14 +63,18 @@ built_empty row places starts m j n none b = record {
 -- ---- the last parts go where a new place wins
 
 -- where j wins at x over the place that is lowest there, it wins over all
-wins_all : (row : List (Option ℕ)) (j x i : ℕ) (t : IsLowestBefore row j x i) → ((g : ℕ) → cell row j ≡ Some g → height g j (pos x) ≤ height t.f i (pos x)) → Wins row j x
+wins_all : (row : List (Option ℕ)) (j x i : ℕ) (t : IsLowestBefore row j x i) → ((g : ℕ) → cell row j ≡ Some g → height g j (pos x) ≤ height t.f i (pos x))
+    → Wins row j x
 wins_all row j x i t h g k f is before there = omega (arith, h g is, t.least k f before there)
 
 -- how the first better x, told for whatever numbers the cells hold, stands to another one
-wins_from : (row : List (Option ℕ)) (j i : ℕ) (x0 : ℤ) (x : ℕ) (t : IsLowestBefore row j x i) → ((f g : ℕ) → cell row i ≡ Some f → cell row j ≡ Some g → IsFirstBetter f i g j x0) → x0 ≤ℤ pos x → Wins row j x
+wins_from : (row : List (Option ℕ)) (j i : ℕ) (x0 : ℤ) (x : ℕ) (t : IsLowestBefore row j x i)
+    → ((f g : ℕ) → cell row i ≡ Some f → cell row j ≡ Some g → IsFirstBetter f i g j x0) → x0 ≤ℤ pos x → Wins row j x
 wins_from row j i x0 x t first l = wins_all row j x i t (λ g is. better_from t.f i g j x0 (pos x) t.before (first t.f g t.filled is) l)
 
-pub cut_more : (row : List (Option ℕ)) (places starts : List ℕ) (m k j n : ℕ) (x0 : ℤ) → IsCut row places starts m j n → m ≡ k + 1 → ((f g : ℕ) → cell row (get_or places k 0) ≡ Some f → cell row j ≡ Some g → IsFirstBetter f (get_or places k 0) g j x0) → x0 ≤ℤ pos (get_or starts k 0) → IsCut row places starts k j n
+pub cut_more : (row : List (Option ℕ)) (places starts : List ℕ) (m k j n : ℕ) (x0 : ℤ) → IsCut row places starts m j n → m ≡ k + 1
+    → ((f g : ℕ) → cell row (get_or places k 0) ≡ Some f → cell row j ≡ Some g → IsFirstBetter f (get_or places k 0) g j x0) → x0 ≤ℤ pos (get_or starts k 0)
+    → IsCut row places starts k j n
 cut_more row places starts m k j n x0 c is first l =
     let p = c.parts in
     let b = p.below k (omega arith) in
@@ -109,7 +118,8 @@ some_value : {A : Type 0} (o : Option A) → IsSome o → (x : A) × (o ≡ Some
 some_value None h = cc
 some_value (Some x) h = (x, refl)
 
-pub settled : (row : List (Option ℕ)) (places starts : List ℕ) (m k j n start : ℕ) (x0 : ℤ) → IsCut row places starts m j n → m ≡ k + 1 → IsSome (cell row j) → ((f g : ℕ) → cell row (get_or places k 0) ≡ Some f → cell row j ≡ Some g → IsFirstBetter f (get_or places k 0) g j x0)
+pub settled : (row : List (Option ℕ)) (places starts : List ℕ) (m k j n start : ℕ) (x0 : ℤ) → IsCut row places starts m j n → m ≡ k + 1 → IsSome (cell row j)
+    → ((f g : ℕ) → cell row (get_or places k 0) ≡ Some f → cell row j ≡ Some g → IsFirstBetter f (get_or places k 0) g j x0)
     → pos (get_or starts k 0) <ℤ x0 → pos start ≤ℤ x0 → start ≤ n → (start < n → pos start ≡ x0) → IsSettled row places starts m start j n
 settled row places starts m k j n start x0 c is filled first l least most same =
     let p = c.parts in
@@ -141,7 +151,8 @@ settled row places starts m k j n start x0 c is filled first l least most same =
             let t = p.lowest h x d a (omega arith) next in
             one_more row j x (get_or places h 0) t (λ g2 is2.
             let low : height t.f (get_or places h 0) (pos x) ≤ height there.f i (pos x) = t.least i there.f there.before there.filled in
-            let high : height there.f i (pos x) < height g2 j (pos x) = better_before there.f i g2 j x0 (pos x) (first there.f g2 there.filled is2) (omega (arith, ints)) in
+            let high : height there.f i (pos x) < height g2 j (pos x) = better_before there.f i g2 j x0 (pos x) (first there.f g2 there.filled is2)
+            (omega (arith, ints)) in
             omega (arith, low, high));
       };
       within = most;
@@ -169,7 +180,8 @@ lowest_by row j x g is wins = record {
   ];
 }
 
-pub built_more : (row : List (Option ℕ)) (places starts : List ℕ) (m start j n : ℕ) → IsSettled row places starts m start j n → IsSome (cell row j) → start < n → m ≤ j → m < length places → m < length starts → AreBuilt row (set places m j) (set starts m start) (m + 1) (j + 1) n
+pub built_more : (row : List (Option ℕ)) (places starts : List ℕ) (m start j n : ℕ) → IsSettled row places starts m start j n → IsSome (cell row j) → start < n
+    → m ≤ j → m < length places → m < length starts → AreBuilt row (set places m j) (set starts m start) (m + 1) (j + 1) n
 built_more row places starts m start j n s filled l few in_places in_starts =
     let p = s.parts in
     let g = some_value (cell row j) filled in
@@ -200,7 +212,8 @@ built_more row places starts m start j n s filled l few in_places in_starts =
                 | inl q ↦ rw (q, last_start) at (next (omega arith))
                 | inr q ↦ omega (arith, p.below (k + 1) (omega arith), rw (old_start (k + 1) (omega arith)) at (next (omega arith)))
               ] in
-              rw (old_place k (omega arith)) (p.lowest k x (omega arith) (rw (old_start k (omega arith)) at a) inside (λ q. rw (old_start (k + 1) q) at (next (omega arith))))
+              rw (old_place k (omega arith))
+              (p.lowest k x (omega arith) (rw (old_start k (omega arith)) at a) inside (λ q. rw (old_start (k + 1) q) at (next (omega arith))))
         ];
       };
       few = omega arith;
@@ -223,8 +236,10 @@ lowest_of_all row x i t = record {
 }
 
 -- the place r - 1 gets what the part k says of it
-pub written_more : (row : List (Option ℕ)) (places starts out : List ℕ) (m k r : ℕ) → AreBuilt row places starts m (length row) (length row) → k < m → 0 < r → r ≤ length row → get_or starts k 0 < r → (k + 1 < m → r ≤ get_or starts (k + 1) 0) → length out ≡ length row
-    → ((x : ℕ) → r ≤ x → x < length row → IsLowest row (pos x) (get_or out x 0)) → (x : ℕ) → r - 1 ≤ x → x < length row → IsLowest row (pos x) (get_or (set out (r - 1) (get_or places k 0)) x 0)
+pub written_more : (row : List (Option ℕ)) (places starts out : List ℕ) (m k r : ℕ) → AreBuilt row places starts m (length row) (length row) → k < m → 0 < r
+    → r ≤ length row → get_or starts k 0 < r → (k + 1 < m → r ≤ get_or starts (k + 1) 0) → length out ≡ length row
+    → ((x : ℕ) → r ≤ x → x < length row → IsLowest row (pos x) (get_or out x 0)) → (x : ℕ) → r - 1 ≤ x → x < length row
+    → IsLowest row (pos x) (get_or (set out (r - 1) (get_or places k 0)) x 0)
 written_more row places starts out m k r b there some most started ended long old x l h = elim (cases_eq x (r - 1)) [
   | inl e ↦
       let t = lowest_of_all row (r - 1) (get_or places k 0) (b.parts.lowest k (r - 1) there (omega arith) (omega arith) (λ q. omega (arith, ended q))) in

@@ -19,7 +19,8 @@ pub record AreParts (row : List (Option ℕ)) (places starts : List ℕ) (m j e 
   pub first : 0 < m → slice_index starts 0 ≡ 0
   pub rising : (h k : ℕ) → h < k → k < m → slice_index starts h < slice_index starts k
   pub below : (k : ℕ) → k < m → slice_index starts k < e
-  pub lowest : (k x : ℕ) → k < m → slice_index starts k ≤ x → x < e → (k + 1 < m → x < slice_index starts (k + 1)) → IsLowestBefore row j x (slice_index places k)
+  pub lowest : (k x : ℕ) → k < m → slice_index starts k ≤ x → x < e → (k + 1 < m → x < slice_index starts (k + 1))
+      → IsLowestBefore row j x (slice_index places k)
 
 -- the parts up to e, where j wins from e on
 pub record IsCut (row : List (Option ℕ)) (places starts : List ℕ) (m j n : ℕ) : Type 0 where

@@ -50,15 +50,27 @@ module _ (upper lower lower' : List ℕ) (i b : ℕ) (s : Sums upper lower) (p :
     }
 
 -- levels with as many words as before
-pub levels_of : (base first second top base' first' second' top' : List ℕ) → AreLevels base first second top → length base' ≡ length base → length first' ≡ length first
-    → length second' ≡ length second → length top' ≡ length top → Sums first' base' → Sums second' first' → Sums top' second' → AreLevels base' first' second' top'
+pub levels_of : (base first second top base' first' second' top' : List ℕ) → AreLevels base first second top → length base' ≡ length base
+    → length first' ≡ length first
+    → length second' ≡ length second → length top' ≡ length top → Sums first' base' → Sums second' first' → Sums top' second'
+    → AreLevels base' first' second' top'
 levels_of base first second top base' first' second' top' l a b d e x y z =
     let m = l.few in
     let n = l.few_first in
     let o = l.few_second in
     let p = l.some in
     let q = l.few_top in
-    record { few = omega arith; first_sums = x; second_sums = y; top_sums = z; some = omega arith; few_top = omega arith; few_first = omega arith; few_second = omega arith }
+    record {
+      few = omega arith;
+      first_sums = x;
+      second_sums = y;
+      top_sums = z;
+      some = omega arith;
+      few_top = omega arith;
+      few_first = omega arith;
+      few_second =
+          omega arith;
+    }
 
 -- ---- the least number
 

@@ -1,6 +1,14 @@
+pub mod DrawnBalls
+pub mod Spans
+pub mod BoxRows
+pub mod EqualSides
+pub mod BallsInTurn
 pub mod Shifts
 pub mod WordSteps
 pub mod LevelSteps
+pub mod HandSteps
 pub mod TruthSteps
 pub mod ValueReads
 pub mod SideLists
+pub mod RunSteps
+pub mod SpanSteps

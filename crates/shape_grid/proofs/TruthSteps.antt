@@ -1,6 +1,7 @@
 -- The truth values that words hold, while one of them is changed, and the first of them that is true.
 -- Laws over lists alone.
-use Rattle.std.proofs.Common.{◌≡◌, ℕ, ◌+◌, ◌*◌, ◌/◌, ◌%◌, ◌^◌, ◌<◌, ◌≤◌, Bool, true, false, List, length, set, replicate, get_or, slice_index, sym, ap, subst, ◌∙◌, arith}
+use Rattle.std.proofs.Common.{◌≡◌, ℕ, ◌+◌, ◌*◌, ◌/◌, ◌%◌, ◌^◌, ◌<◌, ◌≤◌, Bool, true, false, List, length, set, replicate, get_or, slice_index, sym, ap, subst}
+use Rattle.std.proofs.Common.{◌∙◌, arith}
 use Rattle.std.specs.Prelude.{◌==◌, Option, Some, None, MatchOption}
 use Rattle.std.specs.Int.{bit_at}
 use Rattle.std.proofs.lemmas.List.{length-set, length-replicate, get_or-replicate, get_or-set_same, get_or-set_other, get_or_past, same_lists}
@@ -17,7 +18,8 @@ pub value_of : (words : List ℕ) (n i : ℕ) (d : Bool) → i < n → get_or (t
 value_of words n i d l = get_or-map-range_with_len (is_in words) 0 n i i d l (omega arith)
 
 -- a place of the row has its bit in the words
-pub place_within : (words : List ℕ) (n : ℕ) (values : List Bool) (i : ℕ) → AreTruths words n → truths words n ≡ values → i < length values → (i < n) × (i < 64 * length words)
+pub place_within : (words : List ℕ) (n : ℕ) (values : List Bool) (i : ℕ) → AreTruths words n → truths words n ≡ values → i < length values
+    → (i < n) × (i < 64 * length words)
 place_within words n values i a e l =
     let m : n ≡ length values = sym (length-truths words n) ∙ ap length e in
     let r = a.room in
@@ -38,7 +40,8 @@ present words i h = elim (ℕ_discrete (bit_of words i) 1) [
 ]
 
 -- the values of three numbers in a row
-pub three_true : (words : List ℕ) (n : ℕ) (values : List Bool) (i r : ℕ) → truths words n ≡ values → i + 2 < length values → AreThreeIn words i r → AreThree values i r
+pub three_true : (words : List ℕ) (n : ℕ) (values : List Bool) (i r : ℕ) → truths words n ≡ values → i + 2 < length values → AreThreeIn words i r
+    → AreThree values i r
 three_true words n values i r e l h b = (
   (λ t. let a = (h b).0 t in (a.0, value a.0 ∙ ap (λ x. x == 1) a.1)),
   λ t. (h b).1 (t.0, present words (i + b) (sym (value t.0) ∙ t.1)),
@@ -50,10 +53,12 @@ three_true words n values i r e l h b = (
         ap (λ v. get_or v (i + b) false) (sym e) ∙ value_of words n (i + b) false (omega arith)
 
 -- the values of a word
-pub word_true : (words : List ℕ) (n : ℕ) (values : List Bool) (w : ℕ) → AreTruths words n → truths words n ≡ values → slice_index words w < 2 ^ 64 → AreOfWord values w (slice_index words w)
+pub word_true : (words : List ℕ) (n : ℕ) (values : List Bool) (w : ℕ) → AreTruths words n → truths words n ≡ values → slice_index words w < 2 ^ 64
+    → AreOfWord values w (slice_index words w)
 word_true words n values w a e small k = (
   (λ t.
-      let low : k < 64 = elim (dec_lt k 64) [ yes m ↦ m | no m ↦ absurd (let z = bit_at_above (slice_index words w) 64 k small (omega arith) in omega arith) ] in
+      let low : k < 64 = elim (dec_lt k 64) [ yes m ↦ m | no m ↦ absurd (let z = bit_at_above (slice_index words w) 64 k small (omega arith) in omega arith) ]
+      in
       let p : (64 * w + k) / 64 ≡ w = omega arith in
       let q : (64 * w + k) % 64 ≡ k = omega arith in
       let there : In words (64 * w + k) = (λ i. bit_at (slice_index words (p i)) (q i)) ∙ t in
@@ -65,7 +70,8 @@ word_true words n values w a e small k = (
       let v : get_or (truths words n) (64 * w + k) false ≡ true = ap (λ v. get_or v (64 * w + k) false) e ∙ t.1 in
       let within : 64 * w + k < n = elim (dec_lt (64 * w + k) n) [
         | yes m ↦ m
-        | no m ↦ absurd (let z : get_or (truths words n) (64 * w + k) false ≡ false = get_or_past (truths words n) (64 * w + k) false (omega (arith, length-truths words n)) in let f : true ≡ false = sym v ∙ z in cc)
+        | no m ↦ absurd (let z : get_or (truths words n) (64 * w + k) false ≡ false =
+            get_or_past (truths words n) (64 * w + k) false (omega (arith, length-truths words n)) in let f : true ≡ false = sym v ∙ z in cc)
       ] in
       sym (λ i. bit_at (slice_index words (p i)) (q i)) ∙ present words (64 * w + k) (sym (value_of words n (64 * w + k) false within) ∙ v),
 )
@@ -79,11 +85,13 @@ none_true words n z = same_lists (truths words n) (replicate n false) (length-tr
 module _ (words words' : List ℕ) (n i b : ℕ) (p : IsPut words words' i b) (l : i < n) where
   -- one value is changed
   pub put_true : truths words' n ≡ set (truths words n) i (b == 1)
-  put_true = same_lists (truths words' n) (set (truths words n) i (b == 1)) (length-truths words' n ∙ sym (length-set (truths words n) i (b == 1) ∙ length-truths words n)) (λ k d m.
+  put_true = same_lists (truths words' n) (set (truths words n) i (b == 1))
+      (length-truths words' n ∙ sym (length-set (truths words n) i (b == 1) ∙ length-truths words n)) (λ k d m.
       let k_in : k < n = omega (arith, length-truths words' n) in
       value_of words' n k d k_in ∙ elim (ℕ_discrete k i) [
         | yes e ↦ ap (is_in words') e ∙ ap (λ b. b == 1) p.here
-            ∙ sym (ap (λ k. get_or (set (truths words n) i (b == 1)) k d) e ∙ get_or-set_same (truths words n) i (b == 1) d (omega (arith, length-truths words n)))
+            ∙ sym (ap (λ k. get_or (set (truths words n) i (b == 1)) k d) e
+            ∙ get_or-set_same (truths words n) i (b == 1) d (omega (arith, length-truths words n)))
         | no e ↦ ap (λ b. b == 1) (p.others k e) ∙ sym (get_or-set_other (truths words n) i k (b == 1) d e ∙ value_of words n k d k_in)
       ])
 

@@ -10,7 +10,8 @@ use Rattle.shape_terms.proofs.BoxLists.{objects_next, objects_skip, length-box_p
 use Rattle.shape_grid.specs.Truths.{IsFirstTrue}
 
 -- points without a true value are passed
-passed : (X : Picture) (n from : ℕ) → from + n ≤ box_count X.sides → ((k : ℕ) → from ≤ k → k < from + n → get_or X.values k false ≡ false) → objects_from X from ≡ objects_from X (from + n)
+passed : (X : Picture) (n from : ℕ) → from + n ≤ box_count X.sides → ((k : ℕ) → from ≤ k → k < from + n → get_or X.values k false ≡ false)
+    → objects_from X from ≡ objects_from X (from + n)
 passed X zero from l none = let e : from + 0 ≡ from = omega arith in rw e refl
 passed X (suc n) from l none =
     let e : from + suc n ≡ from + 1 + n = omega arith in
@@ -18,7 +19,8 @@ passed X (suc n) from l none =
     ∙ passed X n (from + 1) (omega arith) (λ k m h. none k (omega arith) (omega arith)) ∙ ap (objects_from X) (sym e)
 
 -- the first true value is that of the first object point
-pub found : (X : Picture) (from k : ℕ) → length X.values ≡ box_count X.sides → IsFirstTrue X.values from k → objects_from X from ≡ raster_point X.sides k ∷ objects_from X (k + 1)
+pub found : (X : Picture) (from k : ℕ) → length X.values ≡ box_count X.sides → IsFirstTrue X.values from k
+    → objects_from X from ≡ raster_point X.sides k ∷ objects_from X (k + 1)
 found X from k e f =
     let on = f.on in
     let within = f.within in

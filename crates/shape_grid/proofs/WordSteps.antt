@@ -1,10 +1,12 @@
 -- A word of a set while one of its bits is changed, and its lowest bit.
 -- Laws over numbers and lists alone.
-use Rattle.std.proofs.Common.{◌≡◌, ◌≢◌, ℕ, ◌+◌, ◌-◌, ◌*◌, ◌/◌, ◌%◌, ◌^◌, ◌<◌, ◌≤◌, ◌↔◌, Bool, true, false, List, length, set, slice_index, sym, ◌∙◌, ap, arith, w64}
+use Rattle.std.proofs.Common.{◌≡◌, ◌≢◌, ℕ, ◌+◌, ◌-◌, ◌*◌, ◌/◌, ◌%◌, ◌^◌, ◌<◌, ◌≤◌, ◌↔◌, Bool, true, false, List, length, set, slice_index, sym, ◌∙◌, ap, arith}
+use Rattle.std.proofs.Common.{w64}
 use Rattle.std.specs.Int.{bit_at, bit_not, trailing_zeros}
 use Rattle.std.specs.Int.Bits.{bit_or, bit_and}
 use Rattle.std.proofs.lemmas.List.{length-set, get_or-set_same, get_or-set_other, get_or_past}
-use Rattle.std.proofs.lemmas.Nat.Bits.{bit_at-zero, bit_at_set_same, bit_at_set_other, bit_at_clear_same, bit_at_clear_other, bit_at-trailing_zeros, bit_at_above, bit_at_or}
+use Rattle.std.proofs.lemmas.Nat.Bits.{bit_at-zero, bit_at_set_same, bit_at_set_other, bit_at_clear_same, bit_at_clear_other, bit_at-trailing_zeros}
+use Rattle.std.proofs.lemmas.Nat.Bits.{bit_at_above, bit_at_or}
 use Rattle.std.proofs.Math.Nat.{div-le_self}
 use native.Mathlib.Decide.{dec_lt, ℕ_discrete}
 use Rattle.shape_grid.specs.Sets.{In, bit_of, IsPut, IsLeastFrom, AreThreeIn}
@@ -45,7 +47,8 @@ module _ (words : List ℕ) (i : ℕ) (l : i < 64 * length words) where
   low = omega arith
 
   pub put_one : IsPut words (set words (i / 64) (bit_or (slice_index words (i / 64)) (1 * 2 ^ (i % 64) % 2 ^ 64))) i 1
-  put_one = put_word words i (bit_or (slice_index words (i / 64)) (1 * 2 ^ (i % 64) % 2 ^ 64)) 1 l (bit_at_set_same w64 (slice_index words (i / 64)) (i % 64) low)
+  put_one = put_word words i (bit_or (slice_index words (i / 64)) (1 * 2 ^ (i % 64) % 2 ^ 64)) 1 l
+      (bit_at_set_same w64 (slice_index words (i / 64)) (i % 64) low)
       (λ k m n. bit_at_set_other w64 (slice_index words (i / 64)) (i % 64) low k n)
 
   pub put_none : IsPut words (set words (i / 64) (bit_and (slice_index words (i / 64)) (bit_not w64 (1 * 2 ^ (i % 64) % 2 ^ 64)))) i 0
@@ -53,7 +56,8 @@ module _ (words : List ℕ) (i : ℕ) (l : i < 64 * length words) where
       (bit_at_clear_same w64 (slice_index words (i / 64)) (i % 64) low)
       (λ k m n. bit_at_clear_other w64 (slice_index words (i / 64)) (i % 64) low k m n)
 
-lowest_at : (words : List ℕ) (w z : ℕ) → z < 64 → bit_at (slice_index words w) z ≡ 1 → ((k : ℕ) → k < z → bit_at (slice_index words w) k ≡ 0) → IsLeastOfWord words w (w * 64 + z)
+lowest_at : (words : List ℕ) (w z : ℕ) → z < 64 → bit_at (slice_index words w) z ≡ 1 → ((k : ℕ) → k < z → bit_at (slice_index words w) k ≡ 0)
+    → IsLeastOfWord words w (w * 64 + z)
 lowest_at words w z l one none =
     let p : (w * 64 + z) / 64 ≡ w = omega arith in
     let q : (w * 64 + z) % 64 ≡ z = omega arith in
@@ -72,7 +76,8 @@ lowest_at words w z l one none =
       ];
     }
 
-pub lowest : (words : List ℕ) (w : ℕ) → 0 < slice_index words w → slice_index words w < 2 ^ 64 → IsLeastOfWord words w (w * 64 + trailing_zeros w64 (slice_index words w))
+pub lowest : (words : List ℕ) (w : ℕ) → 0 < slice_index words w → slice_index words w < 2 ^ 64
+    → IsLeastOfWord words w (w * 64 + trailing_zeros w64 (slice_index words w))
 lowest words w filled small =
     let t = bit_at-trailing_zeros w64 (slice_index words w) filled small in
     lowest_at words w (trailing_zeros w64 (slice_index words w)) t.0 t.1 t.2
@@ -89,7 +94,8 @@ filled_if b n h f = elim (ℕ_discrete n 0) [ yes e ↦ absurd (let t = h.1 e in
 
 module _ (words : List ℕ) (from : ℕ) where
   -- the bit of a later number of the same word, in what is left of that word
-  rest_bit : (i : ℕ) → from ≤ i → i / 64 ≡ from / 64 → bit_at (slice_index words (from / 64) / 2 ^ (from % 64)) (i % 64 - from % 64) ≡ bit_at (slice_index words (i / 64)) (i % 64)
+  rest_bit : (i : ℕ) → from ≤ i → i / 64 ≡ from / 64
+      → bit_at (slice_index words (from / 64) / 2 ^ (from % 64)) (i % 64 - from % 64) ≡ bit_at (slice_index words (i / 64)) (i % 64)
   rest_bit i l e =
       let k : from % 64 + (i % 64 - from % 64) ≡ i % 64 = omega arith in
       shr_bit (slice_index words (from / 64)) (from % 64) (i % 64 - from % 64) ∙ ap (λ k. bit_at (slice_index words (from / 64)) k) k

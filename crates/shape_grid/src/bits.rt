@@ -12,8 +12,8 @@ use std::marker::Model;
 /// A row of truth values. It takes a bit for each, and at most 64 more.
 #[derive(Drop)]
 pub struct Bits {
-    words: Vec<u64>,
-    len: usize,
+    pub(crate) words: Vec<u64>,
+    pub(crate) len: usize,
 }
 
 impl Model for Bits {

@@ -1,10 +1,10 @@
-//! A set of numbers below a bound, where the least is found by a few words.
-//! How bits are set in words belongs elsewhere.
-ghost use Rattle.std.specs.Prelude.{◌≡◌, ℕ, ◌*◌, ◌^◌, ◌<◌, ◌≤◌, length, IfOk, MatchOption};
+//! A set of numbers, one of which may be at hand: it is put in and taken out without a change of the levels.
+//! A set that seldom has more than one number costs little so; how the others are kept stands in `levels.rt`.
+ghost use Rattle.std.specs.Prelude.{◌≡◌, ℕ, ◌*◌, ◌<◌, ◌≤◌, length, IfOk, MatchOption};
 ghost use Rattle.shape_terms.specs.Limits.{most_framed};
 ghost use Rattle.shape_grid.specs.Sets.{In, IsPut, IsLeast};
 
-use crate::words::{least_from, least_of_word, no_bits, put_in, take_out};
+use crate::levels::Levels;
 use shape_space::NoMemory;
 use std::alloc::Global;
 use std::marker::Model;
@@ -12,21 +12,20 @@ use std::marker::Model;
 /// A set of numbers. It takes a bit for each number that it may hold, and a little more.
 #[derive(Drop)]
 pub struct Numbers {
-    base: Vec<u64>,
-    first: Vec<u64>,
-    second: Vec<u64>,
-    top: Vec<u64>,
+    levels: Levels,
+    // A number of the set that the levels do not hold.
+    hand: Option<usize>,
 }
 
 impl Model for Numbers {
     ghost use Rattle.std.specs.Prelude.{ℕ, List};
-    ghost use Rattle.shape_grid.specs.Levels.{AreLevels};
+    ghost use Rattle.shape_grid.specs.Hands.{with_hand, IsApart};
 
     ghost Value = { List ℕ };
 
-    ghost view = { λ s. s.base.items };
+    ghost view = { λ s. with_hand s.hand s.levels };
 
-    ghost invariant = { λ s. AreLevels s.base.items s.first.items s.second.items s.top.items };
+    ghost invariant = { λ s. IsApart s.hand s.levels };
 }
 
 impl Numbers {
@@ -36,16 +35,8 @@ impl Numbers {
         ensures room { IfOk result (λ s. below ≤ 64 * length s) }
         ensures empty { IfOk result (λ s. (i : ℕ) → In s i → ⊥) }
     {
-        let base = no_bits(alloc, below / 64 + 1)?;
-        let first = no_bits(alloc, below / 4096 + 1)?;
-        let second = no_bits(alloc, below / 262144 + 1)?;
-        let top = no_bits(alloc, below / 16777216 + 1)?;
-        Ok(Numbers {
-            base,
-            first,
-            second,
-            top,
-        })
+        let levels = Levels::new(alloc, below)?;
+        Ok(Numbers { levels, hand: None })
     }
 
     /// Puts the number into the set.
@@ -54,10 +45,12 @@ impl Numbers {
         requires { i < 64 * length self.old }
         ensures { IsPut self.old self.new i 1 }
     {
-        if put_in(&mut self.base, i) {
-            if put_in(&mut self.first, i / 64) {
-                if put_in(&mut self.second, i / 64 / 64) {
-                    put_in(&mut self.top, i / 64 / 64 / 64);
+        match self.hand {
+            Some(h) if h == i => {}
+            Some(_) => self.levels.insert(i),
+            None => {
+                if !self.levels.has(i) {
+                    self.hand = Some(i);
                 }
             }
         }
@@ -69,12 +62,9 @@ impl Numbers {
         requires { i < 64 * length self.old }
         ensures { IsPut self.old self.new i 0 }
     {
-        if take_out(&mut self.base, i) {
-            if take_out(&mut self.first, i / 64) {
-                if take_out(&mut self.second, i / 64 / 64) {
-                    take_out(&mut self.top, i / 64 / 64 / 64);
-                }
-            }
+        match self.hand {
+            Some(h) if h == i => self.hand = None,
+            _ => self.levels.remove(i),
         }
     }
 
@@ -84,9 +74,10 @@ impl Numbers {
         ensures { MatchOption result ((i : ℕ) → In self.now i → ⊥)
             (λ i. IsLeast self.now i) }
     {
-        let second = least_from(self.top.as_slice(), 0)?;
-        let first = least_of_word(self.second.as_slice(), second);
-        let base = least_of_word(self.first.as_slice(), first);
-        Some(least_of_word(self.base.as_slice(), base))
+        match (self.levels.least(), self.hand) {
+            (Some(i), Some(h)) => Some(i.min(h)),
+            (None, hand) => hand,
+            (least, None) => least,
+        }
     }
 }

@@ -39,7 +39,8 @@ sense_same s a b sense h = by (which s sense)
 
 -- ---- a point is known by how far along and how high it is
 
-same_flat : (t : ℕ) (p q : Point) → t < 2 → length p ≡ 2 → length q ≡ 2 → coordinate p (other_axis t) ≡ coordinate q (other_axis t) → coordinate p t ≡ coordinate q t → p ≡ q
+same_flat : (t : ℕ) (p q : Point) → t < 2 → length p ≡ 2 → length q ≡ 2 → coordinate p (other_axis t) ≡ coordinate q (other_axis t)
+    → coordinate p t ≡ coordinate q t → p ≡ q
 same_flat zero p q l hp hq e f = two_coordinates p hp ∙ ((λ i. f i ∷ e i ∷ []) ∙ sym (two_coordinates q hq))
 same_flat (suc zero) p q l hp hq e f = two_coordinates p hp ∙ ((λ i. e i ∷ f i ∷ []) ∙ sym (two_coordinates q hq))
 same_flat (suc (suc t)) p q l hp hq e f = absurd (omega arith)
@@ -53,7 +54,8 @@ same_point t s p q l sense hp hq e f = same_flat t p q l hp hq (sense_same s _ _
 -- a line has one height at each place
 pub row_one : (a b mu x y z : ℤ) → pos 0 <ℤ b → mu ≤ℤ rest a b x y → rest a b x y <ℤ (mu +ℤ b) → mu ≤ℤ rest a b x z → rest a b x z <ℤ (mu +ℤ b) → y ≡ z
 row_one a b mu x y z hb p q r s =
-    by_lt_z y z (λ (l : y <ℤ z). absurd (off y z l p q r s)) (λ (l : z ≤ℤ y). by_lt_z z y (λ (m : z <ℤ y). absurd (off z y m r s p q)) (λ (m : y ≤ℤ z). omega (arith, ints, l, m)))
+    by_lt_z y z (λ (l : y <ℤ z). absurd (off y z l p q r s))
+    (λ (l : z ≤ℤ y). by_lt_z z y (λ (m : z <ℤ y). absurd (off z y m r s p q)) (λ (m : y ≤ℤ z). omega (arith, ints, l, m)))
   where
     off : (y z : ℤ) → y <ℤ z → mu ≤ℤ rest a b x y → rest a b x y <ℤ (mu +ℤ b) → mu ≤ℤ rest a b x z → rest a b x z <ℤ (mu +ℤ b) → ⊥
     off y z l p q r s = let m = mul-le_ℤ b (pos 1) (z -ℤ y) (omega (arith, ints, hb)) (omega (arith, ints, l)) in omega (arith, ints, rings, m, q, r)
@@ -65,7 +67,8 @@ taken_one seg x y v z hb e p q =
 
 -- ---- places of a list with one more point
 
-pub more : (P : ℕ → Point → Type 0) (run : List Point) (p : Point) → ((i : ℕ) → i < length run → P i (point_at run i)) → P (length run) p → (i : ℕ) → i < length (run ++ p ∷ []) → P i (point_at (run ++ p ∷ []) i)
+pub more : (P : ℕ → Point → Type 0) (run : List Point) (p : Point) → ((i : ℕ) → i < length run → P i (point_at run i)) → P (length run) p → (i : ℕ)
+    → i < length (run ++ p ∷ []) → P i (point_at (run ++ p ∷ []) i)
 more P run p each last i l = elim (dec_lt i (length run)) [
   | yes m ↦ subst (P i) (sym (get_or-append run (p ∷ []) [] i m)) (each i m)
   | no m ↦ (let e : length run ≡ i = omega (arith, length-append run (p ∷ [])) in
@@ -80,7 +83,9 @@ module _ (t : ℕ) (s : ℤ) (l : t < 2) (sense : IsSense s) where
       same_lists xs ys n (λ k d m.
       let o : k < length ys = omega arith in
       let e = p.place k m ∙ sym (q.place k o) in
-      get_or_default xs k d [] m ∙ (same_point t s (point_at xs k) (point_at ys k) l sense (p.flat k m) (q.flat k o) e (taken_one seg _ _ _ _ hb e (p.taken k m) (q.taken k o)) ∙ get_or_default ys k [] d o))
+      get_or_default xs k d [] m
+      ∙ (same_point t s (point_at xs k) (point_at ys k) l sense (p.flat k m) (q.flat k o) e (taken_one seg _ _ _ _ hb e (p.taken k m) (q.taken k o))
+      ∙ get_or_default ys k [] d o))
     where
       counts : (m n : ℕ) → pos m ≡ pos n → m ≡ n
       counts m n e = omega (arith, ints)
@@ -100,11 +105,13 @@ module _ (t : ℕ) (s : ℤ) (l : t < 2) (sense : IsSense s) where
       back x0 x f = omega (arith, ints)
 
   -- a run that grows by a point is the run of the longer segment
-  pub runs_longer : (seg r : Seg) (run : List Point) (p : Point) → IsRunOf t s seg run → IsLonger seg (along t s p) (height t p) r → along t s p ≡ seg.x1 +ℤ pos 1 → length p ≡ 2 → IsRunOf t s r (run ++ p ∷ [])
+  pub runs_longer : (seg r : Seg) (run : List Point) (p : Point) → IsRunOf t s seg run → IsLonger seg (along t s p) (height t p) r
+      → along t s p ≡ seg.x1 +ℤ pos 1 → length p ≡ 2 → IsRunOf t s r (run ++ p ∷ [])
   runs_longer seg r run p h g next flat = record {
     count = count (length run) (length (run ++ p ∷ [])) seg.x0 seg.x1 r.x0 r.x1 h.count (length-append run (p ∷ [])) g.same_start (g.ends ∙ next);
     flat = more (λ i q. length q ≡ 2) run p h.flat flat;
-    place = more (λ i q. along t s q ≡ r.x0 +ℤ pos i) run p (λ i m. h.place i m ∙ ap (λ (z : ℤ). z +ℤ pos i) (sym g.same_start)) (at_end (length run) seg.x0 seg.x1 r.x0 (along t s p) h.count g.same_start next);
+    place = more (λ i q. along t s q ≡ r.x0 +ℤ pos i) run p (λ i m. h.place i m ∙ ap (λ (z : ℤ). z +ℤ pos i) (sym g.same_start))
+        (at_end (length run) seg.x0 seg.x1 r.x0 (along t s p) h.count g.same_start next);
     taken = more (λ i q. IsTaken r (along t s q) (height t q)) run p (λ i m. g.old _ _ (h.taken i m)) g.new;
   }
     where
@@ -140,7 +147,8 @@ sized : (s a b c : ℤ) → Either s → c ≡ s *ℤ a → neg_ℤ b ≤ℤ c �
 sized s a b c (inl e) h l m = let x = ap (λ (z : ℤ). z *ℤ a) e in omega (arith, ints, rings, h, x, l, m)
 sized s a b c (inr e) h l m = let x = ap (λ (z : ℤ). z *ℤ a) e in omega (arith, ints, rings, h, x, l, m)
 
-pub proper : (t : ℕ) (s : ℤ) (seg : Seg) (n : Naive) → t < 2 → IsSense s → IsLineOf t s seg n → pos 0 <ℤ seg.b → neg_ℤ seg.b ≤ℤ seg.a → seg.a ≤ℤ seg.b → IsProper t n
+pub proper : (t : ℕ) (s : ℤ) (seg : Seg) (n : Naive) → t < 2 → IsSense s → IsLineOf t s seg n → pos 0 <ℤ seg.b → neg_ℤ seg.b ≤ℤ seg.a → seg.a ≤ℤ seg.b
+    → IsProper t n
 proper t s seg n l sense h some low high = record {
   main = (let e = h.main in omega (arith, ints, e, some));
   others = λ u d. others t u n.a l d h.two (size s _ _ _ _ sense h.side h.main low high) (let e = h.main in omega (arith, ints, e, some));
@@ -155,7 +163,8 @@ proper t s seg n l sense h some low high = record {
     past (x ∷ y ∷ []) u b e m = omega (arith, ints)
     past (x ∷ y ∷ z ∷ a) u b e m = absurd (omega arith)
 
-    others : (t u : ℕ) (a : List ℤ) → t < 2 → u ≢ t → length a ≡ 2 → pos (nat_abs (coordinate a (other_axis t))) ≤ℤ coordinate a t → pos 1 ≤ℤ coordinate a t → pos (nat_abs (coordinate a u)) ≤ℤ coordinate a t
+    others : (t u : ℕ) (a : List ℤ) → t < 2 → u ≢ t → length a ≡ 2 → pos (nat_abs (coordinate a (other_axis t))) ≤ℤ coordinate a t → pos 1 ≤ℤ coordinate a t
+        → pos (nat_abs (coordinate a u)) ≤ℤ coordinate a t
     others zero zero a l d e h m = absurd (d refl)
     others zero (suc zero) a l d e h m = h
     others (suc zero) zero a l d e h m = h
@@ -182,12 +191,16 @@ folded s a u b v (inr e) = (λ i. rest (signed_down s a e i) b (signed_down s u 
     plain : (a u b v : ℤ) → rest (neg_ℤ a) b (neg_ℤ u) (neg_ℤ v) ≡ a *ℤ u +ℤ b *ℤ v
     plain a u b v = omega (arith, ints, rings)
 
-pub rest_is_value : (t : ℕ) (s : ℤ) (seg : Seg) (n : Naive) (p : Point) → t < 2 → IsSense s → IsLineOf t s seg n → length p ≡ 2 → rest seg.a seg.b (along t s p) (height t p) ≡ dot n.a p
+pub rest_is_value : (t : ℕ) (s : ℤ) (seg : Seg) (n : Naive) (p : Point) → t < 2 → IsSense s → IsLineOf t s seg n → length p ≡ 2
+    → rest seg.a seg.b (along t s p) (height t p) ≡ dot n.a p
 rest_is_value t s seg n p l sense h flat =
-    let x : rest seg.a seg.b (along t s p) (height t p) ≡ rest (s *ℤ coordinate n.a (other_axis t)) (coordinate n.a t) (along t s p) (height t p) = (λ i. rest (h.side i) (h.main i) (along t s p) (height t p)) in
-    x ∙ (folded s (coordinate n.a (other_axis t)) (coordinate p (other_axis t)) (coordinate n.a t) (coordinate p t) (which s sense) ∙ sym (value_on t n.a p l flat))
+    let x : rest seg.a seg.b (along t s p) (height t p) ≡ rest (s *ℤ coordinate n.a (other_axis t)) (coordinate n.a t) (along t s p) (height t p) =
+    (λ i. rest (h.side i) (h.main i) (along t s p) (height t p)) in
+    x ∙ (folded s (coordinate n.a (other_axis t)) (coordinate p (other_axis t)) (coordinate n.a t) (coordinate p t) (which s sense)
+    ∙ sym (value_on t n.a p l flat))
 
-pub line_holds : (t : ℕ) (s : ℤ) (seg : Seg) (n : Naive) (run : List Point) → t < 2 → IsSense s → IsLineOf t s seg n → pos 0 <ℤ seg.b → neg_ℤ seg.b ≤ℤ seg.a → seg.a ≤ℤ seg.b → IsRunOf t s seg run → IsNaiveFor t run n
+pub line_holds : (t : ℕ) (s : ℤ) (seg : Seg) (n : Naive) (run : List Point) → t < 2 → IsSense s → IsLineOf t s seg n → pos 0 <ℤ seg.b → neg_ℤ seg.b ≤ℤ seg.a
+    → seg.a ≤ℤ seg.b → IsRunOf t s seg run → IsNaiveFor t run n
 line_holds t s seg n run l sense h some low high r = record {
   proper = proper t s seg n l sense h some low high;
   holds = All-from_get_or (HoldsPoint t n) run [] (λ i m.

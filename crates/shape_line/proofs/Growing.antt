@@ -58,7 +58,8 @@ turn : (a b mu ux uy mx my : ℤ) → rest a b ux uy ≡ mu → rest a b mx my �
 turn a b mu ux uy mx my hu hm = omega (arith, ints, rings, hu, hm)
 
 -- the remainder in the new vector, as far as e and dx tell
-between : (b b' q e dx r r' : ℤ) → pos 0 <ℤ b → pos 0 <ℤ b' → b *ℤ q ≡ b' *ℤ e +ℤ dx → pos 0 ≤ℤ e → e <ℤ b → dx <ℤ b' → (dx <ℤ pos 0 → pos 1 ≤ℤ e) → neg_ℤ dx <ℤ b → r ≡ r' +ℤ q → (r' ≤ℤ r) × (r <ℤ (r' +ℤ b'))
+between : (b b' q e dx r r' : ℤ) → pos 0 <ℤ b → pos 0 <ℤ b' → b *ℤ q ≡ b' *ℤ e +ℤ dx → pos 0 ≤ℤ e → e <ℤ b → dx <ℤ b' → (dx <ℤ pos 0 → pos 1 ≤ℤ e)
+    → neg_ℤ dx <ℤ b → r ≡ r' +ℤ q → (r' ≤ℤ r) × (r <ℤ (r' +ℤ b'))
 between b b' q e dx r r' hb hb' g low high hd early near is =
     let v = q_low b b' q e dx hb g above in
     let w = q_high b b' q e dx hb hb' g high hd in
@@ -103,11 +104,16 @@ turned : (u x b : ℤ) → (u -ℤ x) <ℤ b → neg_ℤ (x -ℤ u) <ℤ b
 turned u x b l = omega (arith, ints, l)
 
 -- the point taken has the remainder mu - 1; U is the first upper leaning point
-holds_above : (a b mu ux uy mx my x y : ℤ) → pos 0 <ℤ b → rest a b ux uy ≡ mu → rest a b mx my ≡ mu -ℤ pos 1 → ux <ℤ mx → x <ℤ mx → mu ≤ℤ rest a b x y → rest a b x y <ℤ (mu +ℤ b) → (x <ℤ ux → (mu +ℤ pos 1) ≤ℤ rest a b x y) → (ux -ℤ x) <ℤ b → (rest (my -ℤ uy) (mx -ℤ ux) ux uy ≤ℤ rest (my -ℤ uy) (mx -ℤ ux) x y) × (rest (my -ℤ uy) (mx -ℤ ux) x y <ℤ (rest (my -ℤ uy) (mx -ℤ ux) ux uy +ℤ (mx -ℤ ux)))
+holds_above : (a b mu ux uy mx my x y : ℤ) → pos 0 <ℤ b → rest a b ux uy ≡ mu → rest a b mx my ≡ mu -ℤ pos 1 → ux <ℤ mx → x <ℤ mx → mu ≤ℤ rest a b x y
+    → rest a b x y <ℤ (mu +ℤ b) → (x <ℤ ux → (mu +ℤ pos 1) ≤ℤ rest a b x y) → (ux -ℤ x) <ℤ b
+    → (rest (my -ℤ uy) (mx -ℤ ux) ux uy ≤ℤ rest (my -ℤ uy) (mx -ℤ ux) x y)
+    × (rest (my -ℤ uy) (mx -ℤ ux) x y <ℤ (rest (my -ℤ uy) (mx -ℤ ux) ux uy +ℤ (mx -ℤ ux)))
 holds_above a b mu ux uy mx my x y hb hu hm um xm lo hi before near =
-    between b (mx -ℤ ux) ((my -ℤ uy) *ℤ (x -ℤ ux) -ℤ (mx -ℤ ux) *ℤ (y -ℤ uy)) (rest a b x y -ℤ mu) (x -ℤ ux) (rest (my -ℤ uy) (mx -ℤ ux) x y) (rest (my -ℤ uy) (mx -ℤ ux) ux uy) hb (over ux mx um)
+    between b (mx -ℤ ux) ((my -ℤ uy) *ℤ (x -ℤ ux) -ℤ (mx -ℤ ux) *ℤ (y -ℤ uy)) (rest a b x y -ℤ mu) (x -ℤ ux) (rest (my -ℤ uy) (mx -ℤ ux) x y)
+    (rest (my -ℤ uy) (mx -ℤ ux) ux uy) hb (over ux mx um)
     (key a b (my -ℤ uy) (mx -ℤ ux) (x -ℤ ux) (y -ℤ uy) (rest a b x y -ℤ mu) (turn a b mu ux uy mx my hu hm) (from_upper a b mu ux uy x y hu))
-    (apart_low mu (rest a b x y) lo) (apart_high mu (rest a b x y) b hi) (shorter ux x mx xm) (λ l. apart_more mu (rest a b x y) (before (back ux x l))) (turned ux x b near) (rest-from (my -ℤ uy) (mx -ℤ ux) x y ux uy)
+    (apart_low mu (rest a b x y) lo) (apart_high mu (rest a b x y) b hi) (shorter ux x mx xm) (λ l. apart_more mu (rest a b x y) (before (back ux x l)))
+    (turned ux x b near) (rest-from (my -ℤ uy) (mx -ℤ ux) x y ux uy)
 
 -- ---- leaning points
 
@@ -116,7 +122,8 @@ pub bezout : (a b mu ux uy lx ly : ℤ) → rest a b ux uy ≡ mu → rest a b l
 bezout a b mu ux uy lx ly hu hl = omega (arith, ints, rings, hu, hl)
 
 -- points whose remainders differ by c * b: their distance in x is a multiple of b
-apart : (a b mu ux uy lx ly px py qx qy r c : ℤ) → pos 0 <ℤ b → rest a b ux uy ≡ mu → rest a b lx ly ≡ mu +ℤ b -ℤ pos 1 → rest a b px py ≡ r → rest a b qx qy ≡ r +ℤ c *ℤ b → px <ℤ qx → b ≤ℤ (qx -ℤ px)
+apart : (a b mu ux uy lx ly px py qx qy r c : ℤ) → pos 0 <ℤ b → rest a b ux uy ≡ mu → rest a b lx ly ≡ mu +ℤ b -ℤ pos 1 → rest a b px py ≡ r
+    → rest a b qx qy ≡ r +ℤ c *ℤ b → px <ℤ qx → b ≤ℤ (qx -ℤ px)
 apart a b mu ux uy lx ly px py qx qy r c hb hu hl hp hq lt =
     let e = bezout a b mu ux uy lx ly hu hl in
     let f : a *ℤ (qx -ℤ px) ≡ b *ℤ ((qy -ℤ py) +ℤ c) = omega (arith, ints, rings, hp, hq) in
@@ -147,58 +154,65 @@ module _ (s : Seg) (is : IsSegment s) where
   v_taken = let a = is.l_v in let b = is.l_from in upper_taken s.vx s.vy (omega (arith, ints, a, b)) is.v_to is.v_is
 
 -- ---- the point is on the line
-module _ (s : Seg) (is : IsSegment s) (mx my : ℤ) (next : mx ≡ s.x1 +ℤ pos 1) (low : s.mu ≤ℤ rest s.a s.b mx my) (high : rest s.a s.b mx my <ℤ (s.mu +ℤ s.b)) where
-  -- where M does not lean above, the last upper leaning point stays near
-  pub v_near : (s.mu <ℤ rest s.a s.b mx my) → (mx -ℤ s.vx) <ℤ s.b
-  v_near l = by_lt_z (mx -ℤ s.vx) s.b (λ (h : (mx -ℤ s.vx) <ℤ s.b). h) (λ (h : s.b ≤ℤ (mx -ℤ s.vx)).
-      let n = rest s.a s.b mx my -ℤ s.mu in
-      let d : mx -ℤ s.vx ≡ s.b = omega (arith, ints, h, is.v_last, next) in
-      let e : n ≡ s.b *ℤ (s.a -ℤ (my -ℤ s.vy)) = first s.a s.b s.mu mx my s.vx s.vy is.v_is d in
-      let f = least_multiple s.b n (s.a -ℤ (my -ℤ s.vy)) is.b_pos e (omega (arith, ints, l)) in
-      absurd (omega (arith, ints, f, high)))
-    where
-      first : (a b mu mx my vx vy : ℤ) → rest a b vx vy ≡ mu → mx -ℤ vx ≡ b → rest a b mx my -ℤ mu ≡ b *ℤ (a -ℤ (my -ℤ vy))
-      first a b mu mx my vx vy h d = let k = ap (λ (z : ℤ). a *ℤ z) d in omega (arith, ints, rings, h, k)
+module _ (s : Seg) (is : IsSegment s) (mx my : ℤ) (next : mx ≡ s.x1 +ℤ pos 1) (low : s.mu ≤ℤ rest s.a s.b mx my) (high : rest s.a s.b mx my <ℤ (s.mu +ℤ s.b))
+  where
+    -- where M does not lean above, the last upper leaning point stays near
+    pub v_near : (s.mu <ℤ rest s.a s.b mx my) → (mx -ℤ s.vx) <ℤ s.b
+    v_near l = by_lt_z (mx -ℤ s.vx) s.b (λ (h : (mx -ℤ s.vx) <ℤ s.b). h) (λ (h : s.b ≤ℤ (mx -ℤ s.vx)).
+        let n = rest s.a s.b mx my -ℤ s.mu in
+        let d : mx -ℤ s.vx ≡ s.b = omega (arith, ints, h, is.v_last, next) in
+        let e : n ≡ s.b *ℤ (s.a -ℤ (my -ℤ s.vy)) = first s.a s.b s.mu mx my s.vx s.vy is.v_is d in
+        let f = least_multiple s.b n (s.a -ℤ (my -ℤ s.vy)) is.b_pos e (omega (arith, ints, l)) in
+        absurd (omega (arith, ints, f, high)))
+      where
+        first : (a b mu mx my vx vy : ℤ) → rest a b vx vy ≡ mu → mx -ℤ vx ≡ b → rest a b mx my -ℤ mu ≡ b *ℤ (a -ℤ (my -ℤ vy))
+        first a b mu mx my vx vy h d = let k = ap (λ (z : ℤ). a *ℤ z) d in omega (arith, ints, rings, h, k)
 
-  pub k_near : (rest s.a s.b mx my <ℤ (s.mu +ℤ s.b -ℤ pos 1)) → (mx -ℤ s.kx) <ℤ s.b
-  k_near l = by_lt_z (mx -ℤ s.kx) s.b (λ (h : (mx -ℤ s.kx) <ℤ s.b). h) (λ (h : s.b ≤ℤ (mx -ℤ s.kx)).
-      let n = (s.mu +ℤ s.b -ℤ pos 1) -ℤ rest s.a s.b mx my in
-      let d : mx -ℤ s.kx ≡ s.b = omega (arith, ints, h, is.k_last, next) in
-      let e : n ≡ s.b *ℤ ((my -ℤ s.ky) -ℤ s.a) = first s.a s.b s.mu mx my s.kx s.ky is.k_is d in
-      let f = least_multiple s.b n ((my -ℤ s.ky) -ℤ s.a) is.b_pos e (omega (arith, ints, l)) in
-      absurd (omega (arith, ints, f, low)))
-    where
-      first : (a b mu mx my vx vy : ℤ) → rest a b vx vy ≡ mu +ℤ b -ℤ pos 1 → mx -ℤ vx ≡ b → (mu +ℤ b -ℤ pos 1) -ℤ rest a b mx my ≡ b *ℤ ((my -ℤ vy) -ℤ a)
-      first a b mu mx my vx vy h d = let k = ap (λ (z : ℤ). a *ℤ z) d in omega (arith, ints, rings, h, k)
+    pub k_near : (rest s.a s.b mx my <ℤ (s.mu +ℤ s.b -ℤ pos 1)) → (mx -ℤ s.kx) <ℤ s.b
+    k_near l = by_lt_z (mx -ℤ s.kx) s.b (λ (h : (mx -ℤ s.kx) <ℤ s.b). h) (λ (h : s.b ≤ℤ (mx -ℤ s.kx)).
+        let n = (s.mu +ℤ s.b -ℤ pos 1) -ℤ rest s.a s.b mx my in
+        let d : mx -ℤ s.kx ≡ s.b = omega (arith, ints, h, is.k_last, next) in
+        let e : n ≡ s.b *ℤ ((my -ℤ s.ky) -ℤ s.a) = first s.a s.b s.mu mx my s.kx s.ky is.k_is d in
+        let f = least_multiple s.b n ((my -ℤ s.ky) -ℤ s.a) is.b_pos e (omega (arith, ints, l)) in
+        absurd (omega (arith, ints, f, low)))
+      where
+        first : (a b mu mx my vx vy : ℤ) → rest a b vx vy ≡ mu +ℤ b -ℤ pos 1 → mx -ℤ vx ≡ b → (mu +ℤ b -ℤ pos 1) -ℤ rest a b mx my ≡ b *ℤ ((my -ℤ vy) -ℤ a)
+        first a b mu mx my vx vy h d = let k = ap (λ (z : ℤ). a *ℤ z) d in omega (arith, ints, rings, h, k)
 
-  -- the last leaning points are these
-  pub with_last : (vx vy kx ky : ℤ) → rest s.a s.b vx vy ≡ s.mu → rest s.a s.b kx ky ≡ s.mu +ℤ s.b -ℤ pos 1 → s.vx ≤ℤ vx → vx ≤ℤ mx → (mx -ℤ vx) <ℤ s.b → s.kx ≤ℤ kx → kx ≤ℤ mx → (mx -ℤ kx) <ℤ s.b → IsLonger s mx my (longer s mx vx vy kx ky)
-  with_last vx vy kx ky hv hk v1 v2 v3 k1 k2 k3 = record {
-    is = record {
-      b_pos = is.b_pos;
-      a_low = is.a_low;
-      a_high = is.a_high;
-      b_short = (let h = is.b_short in omega (arith, ints, h, next));
-      u_is = is.u_is;
-      v_is = hv;
-      l_is = is.l_is;
-      k_is = hk;
-      u_from = is.u_from;
-      u_first = is.u_first;
-      v_to = v2;
-      v_last = v3;
-      l_from = is.l_from;
-      l_first = is.l_first;
-      k_to = k2;
-      k_last = k3;
-      u_k = (let h = is.u_k in omega (arith, ints, h, k1));
-      l_v = (let h = is.l_v in omega (arith, ints, h, v1));
-    };
-    same_start = refl;
-    ends = refl;
-    old = λ x y t. record { from = t.from; to = (let h = t.to in omega (arith, ints, h, next)); low = t.low; high = t.high };
-    new = record { from = (let h = is.u_from in let k = is.u_k in let l = is.k_to in omega (arith, ints, h, k, l, next)); to = omega (arith, ints); low = low; high = high };
-  }
+    -- the last leaning points are these
+    pub with_last : (vx vy kx ky : ℤ) → rest s.a s.b vx vy ≡ s.mu → rest s.a s.b kx ky ≡ s.mu +ℤ s.b -ℤ pos 1 → s.vx ≤ℤ vx → vx ≤ℤ mx → (mx -ℤ vx) <ℤ s.b
+        → s.kx ≤ℤ kx → kx ≤ℤ mx → (mx -ℤ kx) <ℤ s.b → IsLonger s mx my (longer s mx vx vy kx ky)
+    with_last vx vy kx ky hv hk v1 v2 v3 k1 k2 k3 = record {
+      is = record {
+        b_pos = is.b_pos;
+        a_low = is.a_low;
+        a_high = is.a_high;
+        b_short = (let h = is.b_short in omega (arith, ints, h, next));
+        u_is = is.u_is;
+        v_is = hv;
+        l_is = is.l_is;
+        k_is = hk;
+        u_from = is.u_from;
+        u_first = is.u_first;
+        v_to = v2;
+        v_last = v3;
+        l_from = is.l_from;
+        l_first = is.l_first;
+        k_to = k2;
+        k_last = k3;
+        u_k = (let h = is.u_k in omega (arith, ints, h, k1));
+        l_v = (let h = is.l_v in omega (arith, ints, h, v1));
+      };
+      same_start = refl;
+      ends = refl;
+      old = λ x y t. record { from = t.from; to = (let h = t.to in omega (arith, ints, h, next)); low = t.low; high = t.high };
+      new = record {
+        from = (let h = is.u_from in let k = is.u_k in let l = is.k_to in omega (arith, ints, h, k, l, next));
+        to = omega (arith, ints);
+        low = low;
+        high = high;
+      };
+    }
 
 -- ---- the point has the remainder mu - 1
 
@@ -218,7 +232,8 @@ steep_low a b a' b' hb hb' ha e =
     cancel-le_ℤ b (neg_ℤ b') a' hb (omega (arith, ints, rings, m, e))
 
 -- the old last lower leaning point leans below the new line
-k_leans : (a b mu ux uy mx my kx ky : ℤ) → pos 0 <ℤ b → rest a b ux uy ≡ mu → rest a b mx my ≡ mu -ℤ pos 1 → rest a b kx ky ≡ mu +ℤ b -ℤ pos 1 → mx -ℤ kx ≡ b → rest (my -ℤ uy) (mx -ℤ ux) kx ky ≡ rest (my -ℤ uy) (mx -ℤ ux) ux uy +ℤ (mx -ℤ ux) -ℤ pos 1
+k_leans : (a b mu ux uy mx my kx ky : ℤ) → pos 0 <ℤ b → rest a b ux uy ≡ mu → rest a b mx my ≡ mu -ℤ pos 1 → rest a b kx ky ≡ mu +ℤ b -ℤ pos 1 → mx -ℤ kx ≡ b
+    → rest (my -ℤ uy) (mx -ℤ ux) kx ky ≡ rest (my -ℤ uy) (mx -ℤ ux) ux uy +ℤ (mx -ℤ ux) -ℤ pos 1
 k_leans a b mu ux uy mx my kx ky hb hu hm hk d =
     let a' = my -ℤ uy in
     let b' = mx -ℤ ux in
@@ -242,7 +257,8 @@ k_leans a b mu ux uy mx my kx ky hb hu hm hk d =
 before_u : (s : Seg) → IsSegment s → (x y : ℤ) → IsTaken s x y → x <ℤ s.ux → (s.mu +ℤ pos 1) ≤ℤ rest s.a s.b x y
 before_u s is x y t l = by_lt_z s.mu (rest s.a s.b x y) (λ (h : s.mu <ℤ rest s.a s.b x y). omega (arith, ints, h)) (λ (h : rest s.a s.b x y ≤ℤ s.mu).
     let e : rest s.a s.b x y ≡ s.mu = (let g = t.low in omega (arith, ints, h, g)) in
-    let far = apart s.a s.b s.mu s.ux s.uy s.lx s.ly x y s.ux s.uy s.mu (pos 0) is.b_pos is.u_is is.l_is e (let v = is.u_is in omega (arith, ints, rings, v)) l in
+    let far = apart s.a s.b s.mu s.ux s.uy s.lx s.ly x y s.ux s.uy s.mu (pos 0) is.b_pos is.u_is is.l_is e (let v = is.u_is in omega (arith, ints, rings, v)) l
+    in
     let f = is.u_first in
     let g = t.from in
     absurd (omega (arith, ints, far, f, g)))
@@ -257,14 +273,16 @@ flatter a b mu x1 y1 mx my hb h k e hm =
     let g : rest a b mx my ≡ rest a b (x1 +ℤ pos 1) my = ap (λ (z : ℤ). rest a b z my) e in
     omega (arith, ints, f, g, hm)
 
-module _ (s : Seg) (is : IsSegment s) (y1 mx my : ℤ) (last : IsTaken s s.x1 y1) (next : mx ≡ s.x1 +ℤ pos 1) (step : my ≤ℤ (y1 +ℤ pos 1)) (hm : rest s.a s.b mx my ≡ s.mu -ℤ pos 1) where
+module _ (s : Seg) (is : IsSegment s) (y1 mx my : ℤ) (last : IsTaken s s.x1 y1) (next : mx ≡ s.x1 +ℤ pos 1) (step : my ≤ℤ (y1 +ℤ pos 1))
+    (hm : rest s.a s.b mx my ≡ s.mu -ℤ pos 1) where
   -- the point lies b past the last lower leaning point
   k_exact : mx -ℤ s.kx ≡ s.b
   k_exact =
       let k_is = is.k_is in
       let k_to = is.k_to in
       let k_last = is.k_last in
-      let far = apart s.a s.b s.mu s.ux s.uy s.kx s.ky s.kx s.ky mx my (s.mu +ℤ s.b -ℤ pos 1) (neg_ℤ (pos 1)) is.b_pos is.u_is k_is k_is (omega (arith, ints, rings, hm)) (omega (arith, ints, k_to, next)) in
+      let far = apart s.a s.b s.mu s.ux s.uy s.kx s.ky s.kx s.ky mx my (s.mu +ℤ s.b -ℤ pos 1) (neg_ℤ (pos 1)) is.b_pos is.u_is k_is k_is
+      (omega (arith, ints, rings, hm)) (omega (arith, ints, k_to, next)) in
       omega (arith, ints, far, k_last, next)
 
   -- the new main coefficient is greater
@@ -279,7 +297,8 @@ module _ (s : Seg) (is : IsSegment s) (y1 mx my : ℤ) (last : IsTaken s s.x1 y1
       let to = t.to in
       let from = t.from in
       let u_first = is.u_first in
-      let h = holds_above s.a s.b s.mu s.ux s.uy mx my x y is.b_pos is.u_is hm u_before (omega (arith, ints, to, next)) t.low t.high (before_u s is x y t) (omega (arith, ints, u_first, from)) in
+      let h = holds_above s.a s.b s.mu s.ux s.uy mx my x y is.b_pos is.u_is hm u_before (omega (arith, ints, to, next)) t.low t.high (before_u s is x y t)
+      (omega (arith, ints, u_first, from)) in
       record { from = t.from; to = omega (arith, ints, to, next); low = h.0; high = h.1 }
 
   raised_new : IsTaken (raised s mx my) mx my
@@ -347,7 +366,8 @@ flip s = record {
 }
 
 pub flip_taken : (s : Seg) (x y : ℤ) → IsTaken s x y → IsTaken (flip s) x (neg_ℤ y)
-flip_taken s x y t = let e = flip_rest s.a s.b x y in let l = t.low in let h = t.high in record { from = t.from; to = t.to; low = omega (arith, ints, e, h); high = omega (arith, ints, e, l) }
+flip_taken s x y t = let e = flip_rest s.a s.b x y in let l = t.low in let h = t.high in
+    record { from = t.from; to = t.to; low = omega (arith, ints, e, h); high = omega (arith, ints, e, l) }
 
 pub flip_is : (s : Seg) → IsSegment s → IsSegment (flip s)
 flip_is s is =

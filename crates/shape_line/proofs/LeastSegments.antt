@@ -44,26 +44,35 @@ module _ (t : ℕ) (s : ℤ) (l : t < 2) (sense : IsSense s) (seg : Seg) (is : I
   at = stands t s l sense seg run is.b_pos h
 
   -- the value of a line at a point of the segment
-  value_at : (n : Naive) (x y : ℤ) → Stands x y → dot n.a (point_at run (place_from seg.x0 x)) ≡ rest (s *ℤ coordinate n.a (other_axis t)) (coordinate n.a t) x y
+  value_at : (n : Naive) (x y : ℤ) → Stands x y → dot n.a (point_at run (place_from seg.x0 x)) ≡ rest (s *ℤ coordinate n.a (other_axis t)) (coordinate n.a t) x
+      y
   value_at n x y k =
       let p = point_at run (place_from seg.x0 x) in
-      value_on t n.a p l (h.flat (place_from seg.x0 x) k.inside) ∙ (sym (folded s (coordinate n.a (other_axis t)) (coordinate p (other_axis t)) (coordinate n.a t) (coordinate p t) (which s sense)) ∙ (λ i. rest (s *ℤ coordinate n.a (other_axis t)) (coordinate n.a t) (k.far i) (k.high i)))
+      value_on t n.a p l (h.flat (place_from seg.x0 x) k.inside)
+      ∙ (sym (folded s (coordinate n.a (other_axis t)) (coordinate p (other_axis t)) (coordinate n.a t) (coordinate p t) (which s sense))
+      ∙ (λ i. rest (s *ℤ coordinate n.a (other_axis t)) (coordinate n.a t) (k.far i) (k.high i)))
 
-  meets_in : (n : Naive) (x y z w : ℤ) → Stands x y → Stands z w → Meets t run n (place_from seg.x0 x) (place_from seg.x0 z) → ((s *ℤ coordinate n.a (other_axis t)) *ℤ (z -ℤ x)) <ℤ (coordinate n.a t *ℤ ((w -ℤ y) +ℤ pos 1))
+  meets_in : (n : Naive) (x y z w : ℤ) → Stands x y → Stands z w → Meets t run n (place_from seg.x0 x) (place_from seg.x0 z)
+      → ((s *ℤ coordinate n.a (other_axis t)) *ℤ (z -ℤ x)) <ℤ (coordinate n.a t *ℤ ((w -ℤ y) +ℤ pos 1))
   meets_in n x y z w j k m =
       let p = point_at run (place_from seg.x0 x) in
       let q = point_at run (place_from seg.x0 z) in
-      asks (s *ℤ coordinate n.a (other_axis t)) (coordinate n.a t) x y z w (dot n.a (difference q p)) (dot n.a p) (dot n.a q) (dot-difference n.a q p) (value_at n x y j) (value_at n z w k) m
+      asks (s *ℤ coordinate n.a (other_axis t)) (coordinate n.a t) x y z w (dot n.a (difference q p)) (dot n.a p) (dot n.a q) (dot-difference n.a q p)
+      (value_at n x y j) (value_at n z w k) m
 
   -- no proper line that meets both pairs has a smaller main coefficient
-  pub no_less : (n : Naive) → IsProper t n → Meets t run n (place_from seg.x0 seg.ux) (place_from seg.x0 seg.kx) → Meets t run n (place_from seg.x0 seg.vx) (place_from seg.x0 seg.lx) → seg.b ≤ℤ coordinate n.a t
+  pub no_less : (n : Naive) → IsProper t n → Meets t run n (place_from seg.x0 seg.ux) (place_from seg.x0 seg.kx)
+      → Meets t run n (place_from seg.x0 seg.vx) (place_from seg.x0 seg.lx) → seg.b ≤ℤ coordinate n.a t
   no_less n proper m1 m2 =
       let u_k = is.u_k in
       let l_v = is.l_v in
-      least ((seg.ky -ℤ seg.uy) +ℤ pos 1) (seg.kx -ℤ seg.ux) ((seg.vy -ℤ seg.ly) -ℤ pos 1) (seg.vx -ℤ seg.lx) seg.a seg.b (s *ℤ coordinate n.a (other_axis t)) (coordinate n.a t)
+      least ((seg.ky -ℤ seg.uy) +ℤ pos 1) (seg.kx -ℤ seg.ux) ((seg.vy -ℤ seg.ly) -ℤ pos 1) (seg.vx -ℤ seg.lx) seg.a seg.b (s *ℤ coordinate n.a (other_axis t))
+      (coordinate n.a t)
       is.b_pos (omega (arith, ints, u_k)) (omega (arith, ints, l_v))
       (sym (bezout seg.a seg.b seg.mu seg.ux seg.uy seg.kx seg.ky is.u_is is.k_is)) (bezout_back seg.a seg.b seg.mu seg.vx seg.vy seg.lx seg.ly is.v_is is.l_is)
-      (meets_in n seg.ux seg.uy seg.kx seg.ky (at _ _ (u_taken seg is)) (at _ _ (k_taken seg is)) m1) (mirrored (s *ℤ coordinate n.a (other_axis t)) (coordinate n.a t) seg.lx seg.ly seg.vx seg.vy (meets_in n seg.vx seg.vy seg.lx seg.ly (at _ _ (v_taken seg is)) (at _ _ (l_taken seg is)) m2))
+      (meets_in n seg.ux seg.uy seg.kx seg.ky (at _ _ (u_taken seg is)) (at _ _ (k_taken seg is)) m1)
+      (mirrored (s *ℤ coordinate n.a (other_axis t)) (coordinate n.a t) seg.lx seg.ly seg.vx seg.vy
+      (meets_in n seg.vx seg.vy seg.lx seg.ly (at _ _ (v_taken seg is)) (at _ _ (l_taken seg is)) m2))
 
   -- so the leaning points show the line to be least
   pub segment_shows : ShowsLeast t run seg.b (pairs_in seg)
@@ -76,7 +85,8 @@ module _ (t : ℕ) (s : ℤ) (l : t < 2) (sense : IsSense s) (seg : Seg) (is : I
   }
 
 -- one point alone
-pub one_shows : (t : ℕ) (run : List Point) (p : Pairs) → 1 ≤ length run → p.low1 ≡ 0 → p.high1 ≡ 0 → p.low2 ≡ 0 → p.high2 ≡ 0 → (b : ℤ) → b ≡ pos 1 → ShowsLeast t run b p
+pub one_shows : (t : ℕ) (run : List Point) (p : Pairs) → 1 ≤ length run → p.low1 ≡ 0 → p.high1 ≡ 0 → p.low2 ≡ 0 → p.high2 ≡ 0 → (b : ℤ) → b ≡ pos 1
+    → ShowsLeast t run b p
 one_shows t run p some e1 e2 e3 e4 b one = record {
   first_low = omega arith;
   first_high = omega arith;
@@ -88,20 +98,28 @@ one_shows t run p some e1 e2 e3 e4 b one = record {
 -- ---- of the program's segments
 
 -- the places of the leaning points, or 0 where there is one point alone
-pub segment_bounds : (s : Segment) → (along s.axis s.sense (flat_point s.last) ≡ along s.axis s.sense (flat_point s.first) → ⊥) → (p : Pairs) → p.low1 ≡ place_from (seg_of s).x0 (seg_of s).ux → p.high1 ≡ place_from (seg_of s).x0 (seg_of s).kx → p.low2 ≡ place_from (seg_of s).x0 (seg_of s).vx → p.high2 ≡ place_from (seg_of s).x0 (seg_of s).lx
+pub segment_bounds : (s : Segment) → (along s.axis s.sense (flat_point s.last) ≡ along s.axis s.sense (flat_point s.first) → ⊥) → (p : Pairs)
+    → p.low1 ≡ place_from (seg_of s).x0 (seg_of s).ux → p.high1 ≡ place_from (seg_of s).x0 (seg_of s).kx → p.low2 ≡ place_from (seg_of s).x0 (seg_of s).vx
+    → p.high2 ≡ place_from (seg_of s).x0 (seg_of s).lx
     → ShowsLeast s.axis (points_of s) (seg_of s).b p
 segment_bounds s n p e1 e2 e3 e4 =
-    let m : along s.axis s.sense (flat_point s.first) <ℤ along s.axis s.sense (flat_point s.last) = by_lt_z (along s.axis s.sense (flat_point s.first)) (along s.axis s.sense (flat_point s.last)) (λ l. l) (λ l. absurd (let o = s.grown.order in n (omega (arith, ints, o, l)))) in
-    subst (ShowsLeast s.axis (points_of s) (seg_of s).b) (λ i. record { low1 = sym e1 i; high1 = sym e2 i; low2 = sym e3 i; high2 = sym e4 i }) (segment_shows s.axis s.sense s.grown.axis s.grown.sense (seg_of s) (s.grown.more m) (points_of s) (run_of_segment s))
+    let m : along s.axis s.sense (flat_point s.first) <ℤ along s.axis s.sense (flat_point s.last) = by_lt_z (along s.axis s.sense (flat_point s.first))
+    (along s.axis s.sense (flat_point s.last)) (λ l. l) (λ l. absurd (let o = s.grown.order in n (omega (arith, ints, o, l)))) in
+    subst (ShowsLeast s.axis (points_of s) (seg_of s).b) (λ i. record { low1 = sym e1 i; high1 = sym e2 i; low2 = sym e3 i; high2 = sym e4 i })
+    (segment_shows s.axis s.sense s.grown.axis s.grown.sense (seg_of s) (s.grown.more m) (points_of s) (run_of_segment s))
 
-pub segment_one : (s : Segment) → along s.axis s.sense (flat_point s.last) ≡ along s.axis s.sense (flat_point s.first) → ShowsLeast s.axis (points_of s) (seg_of s).b (record { low1 = 0; high1 = 0; low2 = 0; high2 = 0 })
-segment_one s e = one_shows s.axis (points_of s) (record { low1 = 0; high1 = 0; low2 = 0; high2 = 0 }) (let h = (segment_straight s).some in omega arith) refl refl refl refl (seg_of s).b (s.grown.one e).b
+pub segment_one : (s : Segment) → along s.axis s.sense (flat_point s.last) ≡ along s.axis s.sense (flat_point s.first)
+    → ShowsLeast s.axis (points_of s) (seg_of s).b (record { low1 = 0; high1 = 0; low2 = 0; high2 = 0 })
+segment_one s e = one_shows s.axis (points_of s) (record { low1 = 0; high1 = 0; low2 = 0; high2 = 0 }) (let h = (segment_straight s).some in omega arith) refl
+    refl refl refl (seg_of s).b (s.grown.one e).b
 
 -- the line of a segment is least
 pub segment_least : (s : Segment) → IsLeastLine s.axis (points_of s) (naive_of 2 s.line)
 segment_least s = by_lt_z (along s.axis s.sense (flat_point s.first)) (along s.axis s.sense (flat_point s.last))
-    (λ (l : along s.axis s.sense (flat_point s.first) <ℤ along s.axis s.sense (flat_point s.last)). by (pairs_in (seg_of s)) (segment_shows s.axis s.sense s.grown.axis s.grown.sense (seg_of s) (s.grown.more l) (points_of s) (run_of_segment s)))
-    (λ (l : along s.axis s.sense (flat_point s.last) ≤ℤ along s.axis s.sense (flat_point s.first)). by (record { low1 = 0; high1 = 0; low2 = 0; high2 = 0 }) (segment_one s (same _ _ l s.grown.order)))
+    (λ (l : along s.axis s.sense (flat_point s.first) <ℤ along s.axis s.sense (flat_point s.last)).
+    by (pairs_in (seg_of s)) (segment_shows s.axis s.sense s.grown.axis s.grown.sense (seg_of s) (s.grown.more l) (points_of s) (run_of_segment s)))
+    (λ (l : along s.axis s.sense (flat_point s.last) ≤ℤ along s.axis s.sense (flat_point s.first)). by (record { low1 = 0; high1 = 0; low2 = 0; high2 = 0 })
+    (segment_one s (same _ _ l s.grown.order)))
   where
     same : (x y : ℤ) → y ≤ℤ x → x ≤ℤ y → y ≡ x
     same x y h k = omega (arith, ints, h, k)
@@ -110,7 +128,8 @@ segment_least s = by_lt_z (along s.axis s.sense (flat_point s.first)) (along s.a
     by p k = shows_least s.axis (points_of s) (naive_of 2 s.line) p (naive_holds s) k
 
 -- pairs that show it show each least line of the run
-pub same_least : (t : ℕ) (run : List Point) (n m : Naive) (p : Pairs) → IsLeastLine t run n → IsLeastLine t run m → ShowsLeast t run (coordinate n.a t) p → ShowsLeast t run (coordinate m.a t) p
+pub same_least : (t : ℕ) (run : List Point) (n m : Naive) (p : Pairs) → IsLeastLine t run n → IsLeastLine t run m → ShowsLeast t run (coordinate n.a t) p
+    → ShowsLeast t run (coordinate m.a t) p
 same_least t run n m p h k s =
     let a = h.least m k.line in
     let b = k.least n h.line in

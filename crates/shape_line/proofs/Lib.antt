@@ -1,3 +1,12 @@
+pub mod ShortRuns
+pub mod ShortArcs
+pub mod Senses
+pub mod Verdicts
+pub mod ContourWalks
+pub mod Passing
+pub mod Backs
+pub mod Searching
+pub mod ContourGrowing
 pub mod OneWay
 pub mod SpanRefutes
 pub mod Ways

@@ -19,12 +19,28 @@ mirrored_mu : (my ly b lx : ℤ) → pos 1 -ℤ rest (neg_ℤ my -ℤ neg_ℤ ly
 mirrored_mu my ly b lx = omega (arith, ints, rings)
 
 mirrored : (s : Seg) (mx my : ℤ) → flip (raised (flip s) mx (neg_ℤ my)) ≡ lowered s mx my
-mirrored s mx my = λ i. record { a = less_twice my s.ly i; b = mx -ℤ s.lx; mu = mirrored_mu my s.ly (mx -ℤ s.lx) s.lx i; x0 = s.x0; x1 = mx; ux = s.vx; uy = neg_ℤ-neg_ℤ s.vy i; vx = s.vx; vy = neg_ℤ-neg_ℤ s.vy i; lx = s.lx; ly = neg_ℤ-neg_ℤ s.ly i; kx = mx; ky = neg_ℤ-neg_ℤ my i }
+mirrored s mx my = λ i. record {
+  a = less_twice my s.ly i;
+  b = mx -ℤ s.lx;
+  mu = mirrored_mu my s.ly (mx -ℤ s.lx) s.lx i;
+  x0 = s.x0;
+  x1 = mx;
+  ux = s.vx;
+  uy =
+      neg_ℤ-neg_ℤ s.vy i;
+  vx = s.vx;
+  vy = neg_ℤ-neg_ℤ s.vy i;
+  lx = s.lx;
+  ly = neg_ℤ-neg_ℤ s.ly i;
+  kx = mx;
+  ky = neg_ℤ-neg_ℤ my i;
+}
 
 to_flip : (r : Seg) (x y : ℤ) → IsTaken r x (neg_ℤ y) → IsTaken (flip r) x y
 to_flip r x y h = subst (λ (z : ℤ). IsTaken (flip r) x z) (neg_ℤ-neg_ℤ y) (flip_taken r x (neg_ℤ y) h)
 
-pub lowers : (s : Seg) → IsSegment s → (y1 mx my : ℤ) → IsTaken s s.x1 y1 → mx ≡ s.x1 +ℤ pos 1 → y1 ≤ℤ (my +ℤ pos 1) → rest s.a s.b mx my ≡ s.mu +ℤ s.b → IsLonger s mx my (lowered s mx my)
+pub lowers : (s : Seg) → IsSegment s → (y1 mx my : ℤ) → IsTaken s s.x1 y1 → mx ≡ s.x1 +ℤ pos 1 → y1 ≤ℤ (my +ℤ pos 1) → rest s.a s.b mx my ≡ s.mu +ℤ s.b
+    → IsLonger s mx my (lowered s mx my)
 lowers s is y1 mx my t next step hm =
     let e = flip_rest s.a s.b mx my in
     let f = raises (flip s) (flip_is s is) (neg_ℤ y1) mx (neg_ℤ my) (flip_taken s s.x1 y1 t) next (omega (arith, ints, step)) (omega (arith, ints, e, hm)) in
@@ -108,19 +124,22 @@ after : (a b r k kx ky mx my : ℤ) → rest a b kx ky ≡ r → rest a b mx my 
 after a b r k kx ky mx my h g = omega (arith, ints, rings, h, g)
 
 -- the remainder is too small: the first upper leaning point with the last lower one, and that one with the point
-pub clash_low : (s : Seg) → IsSegment s → (mx my : ℤ) → mx ≡ s.x1 +ℤ pos 1 → rest s.a s.b mx my <ℤ (s.mu -ℤ pos 1) → (((s.ky -ℤ s.uy) +ℤ pos 1) *ℤ (mx -ℤ s.kx)) ≤ℤ (((my -ℤ s.ky) -ℤ pos 1) *ℤ (s.kx -ℤ s.ux))
+pub clash_low : (s : Seg) → IsSegment s → (mx my : ℤ) → mx ≡ s.x1 +ℤ pos 1 → rest s.a s.b mx my <ℤ (s.mu -ℤ pos 1)
+    → (((s.ky -ℤ s.uy) +ℤ pos 1) *ℤ (mx -ℤ s.kx)) ≤ℤ (((my -ℤ s.ky) -ℤ pos 1) *ℤ (s.kx -ℤ s.ux))
 clash_low s is mx my next low =
     let u_k = is.u_k in
     let k_last = is.k_last in
     let k = (s.mu -ℤ pos 1) -ℤ rest s.a s.b mx my in
-    clash s.a s.b (s.kx -ℤ s.ux) (mx -ℤ s.kx) k ((s.ky -ℤ s.uy) +ℤ pos 1) ((my -ℤ s.ky) -ℤ pos 1) is.b_pos (omega (arith, ints, low)) (omega (arith, ints, u_k)) (omega (arith, ints, k_last, next))
+    clash s.a s.b (s.kx -ℤ s.ux) (mx -ℤ s.kx) k ((s.ky -ℤ s.uy) +ℤ pos 1) ((my -ℤ s.ky) -ℤ pos 1) is.b_pos (omega (arith, ints, low)) (omega (arith, ints, u_k))
+    (omega (arith, ints, k_last, next))
     (bezout s.a s.b s.mu s.ux s.uy s.kx s.ky is.u_is is.k_is) (after s.a s.b (s.mu +ℤ s.b -ℤ pos 1) k s.kx s.ky mx my is.k_is (omega (arith, ints)))
 
 turned : (a b c d e f : ℤ) → ((neg_ℤ a -ℤ neg_ℤ b +ℤ pos 1) *ℤ e) ≤ℤ ((neg_ℤ c -ℤ neg_ℤ d -ℤ pos 1) *ℤ f) → ((c -ℤ d +ℤ pos 1) *ℤ f) ≤ℤ ((a -ℤ b -ℤ pos 1) *ℤ e)
 turned a b c d e f h = omega (arith, ints, rings, h)
 
 -- too great: the first lower leaning point with the last upper one, and that one with the point
-pub clash_high : (s : Seg) → IsSegment s → (mx my : ℤ) → mx ≡ s.x1 +ℤ pos 1 → (s.mu +ℤ s.b) <ℤ rest s.a s.b mx my → (((my -ℤ s.vy) +ℤ pos 1) *ℤ (s.vx -ℤ s.lx)) ≤ℤ (((s.vy -ℤ s.ly) -ℤ pos 1) *ℤ (mx -ℤ s.vx))
+pub clash_high : (s : Seg) → IsSegment s → (mx my : ℤ) → mx ≡ s.x1 +ℤ pos 1 → (s.mu +ℤ s.b) <ℤ rest s.a s.b mx my
+    → (((my -ℤ s.vy) +ℤ pos 1) *ℤ (s.vx -ℤ s.lx)) ≤ℤ (((s.vy -ℤ s.ly) -ℤ pos 1) *ℤ (mx -ℤ s.vx))
 clash_high s is mx my next high =
     let e = flip_rest s.a s.b mx my in
     turned s.vy s.ly my s.vy (mx -ℤ s.vx) (s.vx -ℤ s.lx) (clash_low (flip s) (flip_is s is) mx (neg_ℤ my) next (omega (arith, ints, e, high)))

@@ -63,7 +63,8 @@ module _ (t : ℕ) (s : ℤ) (l : t < 2) (sense : IsSense s) (seg : Seg) (some :
 
   pub line_points_are : IsRunOf t s seg (line_points t s seg)
   line_points_are =
-      let n : length (line_points t s seg) ≡ nat_abs (seg.x1 -ℤ seg.x0) + 1 = length-map-range_with_len (line_point t s seg) 0 (nat_abs (seg.x1 -ℤ seg.x0) + 1) in
+      let n : length (line_points t s seg) ≡ nat_abs (seg.x1 -ℤ seg.x0) + 1 = length-map-range_with_len (line_point t s seg) 0 (nat_abs (seg.x1 -ℤ seg.x0) + 1)
+      in
       record {
         count = counted (length (line_points t s seg)) seg.x0 seg.x1 order n;
         flat = λ i m. ap length (at_place i (less _ _ _ n m)) ∙ row_two t _ _;

@@ -1,6 +1,7 @@
 -- A file spells at most one picture or has at most one fault, and not both: each answer is read off one state.
 -- The law's second half, which the machine of `Machine` decides.
-use Rattle.std.proofs.Common.{◌≡◌, ℕ, zero, suc, ◌+◌, ◌*◌, ◌<◌, ◌≤◌, Bool, true, false, List, [], ◌∷◌, ◌++◌, length, map, flat_map, take, drop, Some, All, refl, sym, ap, ◌∙◌, subst, inl, inr, ⊎_elim, arith}
+use Rattle.std.proofs.Common.{◌≡◌, ℕ, zero, suc, ◌+◌, ◌*◌, ◌<◌, ◌≤◌, Bool, true, false, List, [], ◌∷◌, ◌++◌, length, map, flat_map, take, drop, Some, All, refl}
+use Rattle.std.proofs.Common.{sym, ap, ◌∙◌, subst, inl, inr, ⊎_elim, arith}
 use Rattle.std.specs.Prelude.{◌||◌, ◌==◌, ◌⊎◌, IsTrue, slice_get}
 use Rattle.std.proofs.lemmas.Bool.{cases_lt}
 use Rattle.std.proofs.lemmas.Option.{slice_get_within, get_or_from_slice_get}
@@ -13,7 +14,8 @@ use Rattle.shape_picture.specs.declared.fault.PictureFault.{PictureFault}
 use Rattle.shape_picture.specs.declared.fault.PictureFault.TheVariants as fault
 use Rattle.shape_picture.specs.declared.header.Form.{Form}
 use Rattle.shape_picture.specs.declared.header.Form.TheVariants.{Plain, Packed}
-use Rattle.shape_picture.specs.Pbm.{is_white, pixel_code, holds_pixels, holders, holder_count, row_bytes, row_pixels, number_value, HoldValues, Pbm, PbmFault, DecidesFault}
+use Rattle.shape_picture.specs.Pbm.{is_white, pixel_code, holds_pixels, holders, holder_count, row_bytes, row_pixels, number_value, HoldValues, Pbm, PbmFault}
+use Rattle.shape_picture.specs.Pbm.{DecidesFault}
 use Rattle.shape_picture.proofs.Grammar.{some_pixels, times_one, pixels_of-pixel}
 use Rattle.shape_picture.proofs.RowBytes.{same_rows, length-concat, some_bytes}
 use Rattle.shape_picture.proofs.ByteSteps.{byte_at}
@@ -67,7 +69,8 @@ same_values Packed w h bytes xs ys a b =
     a.values_are ∙ ap (flat_map (row_pixels w)) rows ∙ sym b.values_are
 
 -- how many they are
-count_holders : (form : Form) (w h : ℕ) (bytes : List ℕ) (xs : List Bool) → HoldValues form w h bytes xs → length xs ≡ w * h → length bytes ≡ holder_count form w h
+count_holders : (form : Form) (w h : ℕ) (bytes : List ℕ) (xs : List Bool) → HoldValues form w h bytes xs → length xs ≡ w * h
+    → length bytes ≡ holder_count form w h
 count_holders Plain w h bytes xs a l = ap length a ∙ length-map xs pixel_code ∙ l
 count_holders Packed w h bytes xs a l = ap length a.bytes_are ∙ length-concat (row_bytes w) a.rows a.row_length ∙ ap (λ (n : ℕ). n * row_bytes w) a.as_many
 
@@ -102,9 +105,11 @@ module _ (limit longest : ℕ) (bytes : List ℕ) where
     sides : X.sides ≡ w ∷ h ∷ []
     values : HoldValues form w h held X.values
 
-  whole_holders : (X : Picture) (m : ℕ) (p : Pbm limit longest bytes X m) → length (holders p.form p.raster) ≡ holder_count p.form (number_value p.width) (number_value p.height)
+  whole_holders : (X : Picture) (m : ℕ) (p : Pbm limit longest bytes X m)
+      → length (holders p.form p.raster) ≡ holder_count p.form (number_value p.width) (number_value p.height)
   whole_holders X m p =
-      count_holders p.form (number_value p.width) (number_value p.height) (holders p.form p.raster) X.values p.values (p.filled ∙ ap box_count p.sides ∙ times_one (number_value p.width) (number_value p.height))
+      count_holders p.form (number_value p.width) (number_value p.height) (holders p.form p.raster) X.values p.values
+      (p.filled ∙ ap box_count p.sides ∙ times_one (number_value p.width) (number_value p.height))
 
   -- from the last byte on
   whole_from : (X : Picture) (m n : ℕ) → Pbm limit longest bytes X m → m ≤ n → IsWholePicture X (state_of limit (take n bytes))
@@ -112,14 +117,16 @@ module _ (limit longest : ℕ) (bytes : List ℕ) where
       let e = whole_holders X m p in
       let w = number_value p.width in
       let h = number_value p.height in
-      let split : take n bytes ≡ take m bytes ++ drop m (take n bytes) = sym (take-append-drop m (take n bytes)) ∙ ap (λ (x : List ℕ). x ++ drop m (take n bytes)) (take-take m n bytes l) in
+      let split : take n bytes ≡ take m bytes ++ drop m (take n bytes) = sym (take-append-drop m (take n bytes))
+      ∙ ap (λ (x : List ℕ). x ++ drop m (take n bytes)) (take-take m n bytes l) in
       record {
         form = p.form;
         w = w;
         h = h;
         held = holders p.form p.raster;
         is = ap (state_of limit) split ∙ onward limit (take m bytes) (drop m (take n bytes))
-            ∙ ap (λ (s : State). run limit (length (take m bytes)) s (drop m (take n bytes))) (in_raster_run limit p.form (take m bytes) p.width p.height p.raster p.front (omega (arith, e)))
+            ∙ ap (λ (s : State). run limit (length (take m bytes)) s (drop m (take n bytes)))
+            (in_raster_run limit p.form (take m bytes) p.width p.height p.raster p.front (omega (arith, e)))
             ∙ run_full limit p.form (drop m (take n bytes)) (length (take m bytes)) w h false (holders p.form p.raster) (omega (arith, e));
         full = omega (arith, e);
         sides = p.sides;
@@ -151,26 +158,32 @@ module _ (limit longest : ℕ) (bytes : List ℕ) where
       let r = last_part p.form p.raster (omega (arith, e, some)) in
       let head = i.before ++ i.ending ++ r.front in
       let km : k + 1 ≡ m = p.last.1 in
-      let split : take m bytes ≡ head ++ r.last ∷ [] = i.front_is ∙ ap (λ (x : List ℕ). i.before ++ i.ending ++ x) r.is ∙ sym (append_assoc (i.before ++ i.ending) r.front (r.last ∷ [])) in
+      let split : take m bytes ≡ head ++ r.last ∷ [] = i.front_is ∙ ap (λ (x : List ℕ). i.before ++ i.ending ++ x) r.is
+      ∙ sym (append_assoc (i.before ++ i.ending) r.front (r.last ∷ [])) in
       let within : k < length bytes = slice_get_within bytes k c p.last.2.1 in
       let full : length (take m bytes) ≡ m = length-take-le m bytes (omega (arith, within, km)) in
       let len : length head ≡ k = omega (arith, ap length split, length_push head r.last, full, km) in
-      let got : slice_get (head ++ r.last ∷ []) k ≡ Some c = ap (λ (x : List ℕ). slice_get x k) (sym split) ∙ got_taken bytes k m (omega (arith, km)) ∙ p.last.2.1 in
+      let got : slice_get (head ++ r.last ∷ []) k ≡ Some c = ap (λ (x : List ℕ). slice_get x k) (sym split) ∙ got_taken bytes k m (omega (arith, km))
+      ∙ p.last.2.1 in
       let same : r.last ≡ c = got_last head r.last k c len got in
       let holds : holds_pixels p.form r.last ≡ true = rw same p.last.2.2 in
       let before : take k bytes ≡ head = sym (take-take k m bytes (omega (arith, km))) ∙ ap (take k) split ∙ take_at head (r.last ∷ []) k len in
       let held : holders p.form p.raster ≡ holders p.form r.front ++ r.last ∷ [] = ap (holders p.form) r.is ∙ holders-push p.form r.front r.last holds in
-      let one_less : length (holders p.form r.front) + 1 ≡ holder_count p.form w h = sym (length_push (holders p.form r.front) r.last) ∙ sym (ap length held) ∙ e in
+      let one_less : length (holders p.form r.front) + 1 ≡ holder_count p.form w h = sym (length_push (holders p.form r.front) r.last) ∙ sym (ap length held)
+      ∙ e in
       let P = λ (c : ℕ). IsTrue (holds_pixels p.form c || is_white c) in
-      let all : All P r.front = All-same P r.front (take (length r.front) p.raster) (sym (ap (take (length r.front)) r.is ∙ take_at r.front (r.last ∷ []) (length r.front) refl)) (All-take P (length r.front) p.raster i.bytes) in
-      let state : state_of limit (take k bytes) ≡ State.AtRaster p.form false w h (holders p.form r.front) = ap (state_of limit) before ∙ heading_run limit p.form i.before p.width p.height i.ending r.front i.in_height i.height_done i.ends_header all (omega (arith, one_less)) in
+      let all : All P r.front = All-same P r.front (take (length r.front) p.raster)
+      (sym (ap (take (length r.front)) r.is ∙ take_at r.front (r.last ∷ []) (length r.front) refl)) (All-take P (length r.front) p.raster i.bytes) in
+      let state : state_of limit (take k bytes) ≡ State.AtRaster p.form false w h (holders p.form r.front) = ap (state_of limit) before
+      ∙ heading_run limit p.form i.before p.width p.height i.ending r.front i.in_height i.height_done i.ends_header all (omega (arith, one_less)) in
       let less : length (holders p.form r.front) < holder_count p.form w h = omega (arith, one_less) in
       subst (IsOpenState limit) (sym state) less
 
   -- ---- a fault
 
   abbrev Ends : PictureFault → Type 0
-  Ends f = (end_state ≡ State.AtFault f) ⊎ (IsOpenState limit end_state × (((length bytes < longest) × (f ≡ fault.Short (length bytes))) ⊎ ((longest ≤ length bytes) × (f ≡ fault.TooLong))))
+  Ends f = (end_state ≡ State.AtFault f)
+      ⊎ (IsOpenState limit end_state × (((length bytes < longest) × (f ≡ fault.Short (length bytes))) ⊎ ((longest ≤ length bytes) × (f ≡ fault.TooLong))))
 
   decided_end : (i c : ℕ) (f : PictureFault) → i < longest → slice_get bytes i ≡ Some c → DecidesFault limit (take i bytes) c f → end_state ≡ State.AtFault f
   decided_end i c f l g d =
@@ -178,7 +191,8 @@ module _ (limit longest : ℕ) (bytes : List ℕ) where
       let t : take i (take longest bytes) ≡ take i bytes = take-take i longest bytes (omega arith) in
       let rest = drop (suc i) (take longest bytes) in
       ap (state_of limit) (r ∙ ap (λ (x : List ℕ). x ++ c ∷ rest) t) ∙ onward limit (take i bytes) (c ∷ rest)
-      ∙ ap (λ (s : State). run limit (length (take i bytes) + 1) s rest) (decided_step limit (take i bytes) c f d) ∙ run_stop limit rest (length (take i bytes) + 1) f
+      ∙ ap (λ (s : State). run limit (length (take i bytes) + 1) s rest) (decided_step limit (take i bytes) c f d)
+      ∙ run_stop limit rest (length (take i bytes) + 1) f
 
   ends : (f : PictureFault) → PbmFault limit longest bytes f → Ends f
   ends (fault.Short n) (e, l, u) =

@@ -7,7 +7,8 @@ use Rattle.std.proofs.lemmas.List.Elements.{All-nil, All-push, filter-append}
 use Rattle.std.proofs.lemmas.Grind.{fold-append}
 use Rattle.shape_picture.specs.declared.header.Form.{Form}
 use Rattle.shape_picture.specs.declared.header.Form.TheVariants.{Plain, Packed}
-use Rattle.shape_picture.specs.Pbm.{is_white, is_line_end, magic, holds_pixels, IsDigit, IsComment, IsGap, IsGapPiece, AreComments, IsOneWhite, EndsHeader, IsSide, IsInWidth, IsInHeight, IsInRaster, IsBehindHeight, MayComment, number_value, pixels_of}
+use Rattle.shape_picture.specs.Pbm.{is_white, is_line_end, magic, holds_pixels, IsDigit, IsComment, IsGap, IsGapPiece, AreComments, IsOneWhite, EndsHeader}
+use Rattle.shape_picture.specs.Pbm.{IsSide, IsInWidth, IsInHeight, IsInRaster, IsBehindHeight, MayComment, number_value, pixels_of}
 use Rattle.shape_picture.specs.Header.{CommentOpens, GapLeadsTo, CommentLeadsTo}
 
 -- ---- lists
@@ -49,14 +50,16 @@ gap_push {piece} (IsGap.more p gap h g) q = rw append_assoc (IsGap.more p (gap +
 
 module _ (form : Form) (limit : ℕ) where
   -- what a gap leads to, in other words
-  pub leads_to : {front : List ℕ} (T U V W : List ℕ → Type 0) → ((f : List ℕ) → T f → V f) → ((f : List ℕ) → U f → W f) → GapLeadsTo form limit T U front → GapLeadsTo form limit V W front
+  pub leads_to : {front : List ℕ} (T U V W : List ℕ → Type 0) → ((f : List ℕ) → T f → V f) → ((f : List ℕ) → U f → W f) → GapLeadsTo form limit T U front
+      → GapLeadsTo form limit V W front
   leads_to {front} T U V W t u h = record {
     by_white = λ c w. t (front ++ c ∷ []) (h.by_white c w);
     by_comment = record { may = h.by_comment.may; onward = λ comment p. u (front ++ comment) (h.by_comment.onward comment p) };
   }
 
   -- a gap that goes on by pieces of either kind
-  by_pieces : {front : List ℕ} (T : List ℕ → Type 0) → MayComment form limit front → ((piece : List ℕ) → IsGapPiece piece → T (front ++ piece)) → GapLeadsTo form limit T T front
+  by_pieces : {front : List ℕ} (T : List ℕ → Type 0) → MayComment form limit front → ((piece : List ℕ) → IsGapPiece piece → T (front ++ piece))
+      → GapLeadsTo form limit T T front
   by_pieces T m go = record {
     by_white = λ c w. go (c ∷ []) (IsGapPiece.white c w);
     by_comment = record { may = m; onward = λ comment p. go comment (IsGapPiece.comment p) };
@@ -66,10 +69,13 @@ module _ (form : Form) (limit : ℕ) where
   in_width : {front : List ℕ} (gap : List ℕ) → IsGap gap → front ≡ magic form ++ gap ++ [] → IsInWidth form limit front []
   in_width gap g e = record { gap = gap; is_gap = g; digits_only = All-nil IsDigit; within = omega arith; front_is = e }
 
-  in_height : {front width : List ℕ} (before gap : List ℕ) → IsInWidth form limit before width → IsSide limit width → IsGap gap → front ≡ before ++ gap ++ [] → IsInHeight form limit front width []
-  in_height before gap i d g e = record { before = before; gap = gap; in_width = i; width_done = d; is_gap = g; digits_only = All-nil IsDigit; within = omega arith; front_is = e }
+  in_height : {front width : List ℕ} (before gap : List ℕ) → IsInWidth form limit before width → IsSide limit width → IsGap gap → front ≡ before ++ gap ++ []
+      → IsInHeight form limit front width []
+  in_height before gap i d g e =
+      record { before = before; gap = gap; in_width = i; width_done = d; is_gap = g; digits_only = All-nil IsDigit; within = omega arith; front_is = e }
 
-  in_raster : {front width height : List ℕ} (before ending : List ℕ) → IsInHeight form limit before width height → IsSide limit height → EndsHeader form ending → front ≡ before ++ ending ++ [] → IsInRaster form limit front width height []
+  in_raster : {front width height : List ℕ} (before ending : List ℕ) → IsInHeight form limit before width height → IsSide limit height → EndsHeader form ending
+      → front ≡ before ++ ending ++ [] → IsInRaster form limit front width height []
   in_raster before ending i d g e = record {
     before = before;
     ending = ending;
@@ -86,15 +92,20 @@ module _ (form : Form) (limit : ℕ) where
   magic_opens front e =
       by_pieces (λ f. IsInWidth form limit f []) (MayComment.behind_magic e) (λ piece p. in_width piece (IsGap.one p) (rw e (glue_open (magic form) piece)))
 
-  pub width_opens : (front : List ℕ) → IsInWidth form limit front [] → GapLeadsTo form limit (λ f. IsInWidth form limit f []) (λ f. IsInWidth form limit f []) front
+  pub width_opens : (front : List ℕ) → IsInWidth form limit front []
+      → GapLeadsTo form limit (λ f. IsInWidth form limit f []) (λ f. IsInWidth form limit f []) front
   width_opens front h =
-      by_pieces (λ f. IsInWidth form limit f []) (MayComment.in_gap (inl h)) (λ piece p. in_width (h.gap ++ piece) (gap_push h.is_gap p) (glue_gap front (magic form) h.gap piece h.front_is))
+      by_pieces (λ f. IsInWidth form limit f []) (MayComment.in_gap (inl h))
+      (λ piece p. in_width (h.gap ++ piece) (gap_push h.is_gap p) (glue_gap front (magic form) h.gap piece h.front_is))
 
-  pub width_done_opens : (front digits : List ℕ) → IsInWidth form limit front digits → IsSide limit digits → GapLeadsTo form limit (λ f. IsInHeight form limit f digits []) (λ f. IsInHeight form limit f digits []) front
+  pub width_done_opens : (front digits : List ℕ) → IsInWidth form limit front digits → IsSide limit digits
+      → GapLeadsTo form limit (λ f. IsInHeight form limit f digits []) (λ f. IsInHeight form limit f digits []) front
   width_done_opens front digits h s =
-      by_pieces (λ f. IsInHeight form limit f digits []) (MayComment.behind_side digits (inl h) s) (λ piece p. in_height front piece h s (IsGap.one p) (glue_open front piece))
+      by_pieces (λ f. IsInHeight form limit f digits []) (MayComment.behind_side digits (inl h) s)
+      (λ piece p. in_height front piece h s (IsGap.one p) (glue_open front piece))
 
-  pub height_opens : (front width : List ℕ) → IsInHeight form limit front width [] → GapLeadsTo form limit (λ f. IsInHeight form limit f width []) (λ f. IsInHeight form limit f width []) front
+  pub height_opens : (front width : List ℕ) → IsInHeight form limit front width []
+      → GapLeadsTo form limit (λ f. IsInHeight form limit f width []) (λ f. IsInHeight form limit f width []) front
   height_opens front width h =
       by_pieces (λ f. IsInHeight form limit f width []) (MayComment.in_gap (inr (width, h)))
       (λ piece p. in_height h.before (h.gap ++ piece) h.in_width h.width_done (gap_push h.is_gap p) (glue_gap front h.before h.gap piece h.front_is))
@@ -126,7 +137,8 @@ module _ (form : Form) (limit : ℕ) where
 
   -- ---- a digit more, in the width and in the height
 
-  pub width_digit : (front digits : List ℕ) (c : ℕ) → IsInWidth form limit front digits → IsDigit c → number_value digits * 10 + (c - 48) ≤ limit → IsInWidth form limit (front ++ c ∷ []) (digits ++ c ∷ [])
+  pub width_digit : (front digits : List ℕ) (c : ℕ) → IsInWidth form limit front digits → IsDigit c → number_value digits * 10 + (c - 48) ≤ limit
+      → IsInWidth form limit (front ++ c ∷ []) (digits ++ c ∷ [])
   width_digit front digits c h d l = record {
     gap = h.gap;
     is_gap = h.is_gap;
@@ -135,7 +147,8 @@ module _ (form : Form) (limit : ℕ) where
     front_is = glue_byte front (magic form) h.gap digits c h.front_is;
   }
 
-  pub height_digit : (front width digits : List ℕ) (c : ℕ) → IsInHeight form limit front width digits → IsDigit c → number_value digits * 10 + (c - 48) ≤ limit → IsInHeight form limit (front ++ c ∷ []) width (digits ++ c ∷ [])
+  pub height_digit : (front width digits : List ℕ) (c : ℕ) → IsInHeight form limit front width digits → IsDigit c → number_value digits * 10 + (c - 48) ≤ limit
+      → IsInHeight form limit (front ++ c ∷ []) width (digits ++ c ∷ [])
   height_digit front width digits c h d l = record {
     before = h.before;
     gap = h.gap;
@@ -149,12 +162,14 @@ module _ (form : Form) (limit : ℕ) where
 
   -- ---- a byte more of the raster
 
-  first_of_push : (raster : List ℕ) (c : ℕ) → ((d : ℕ) → slice_get raster 0 ≡ Some d → IsTrue (holds_pixels form d)) → (raster ≡ [] → holds_pixels form c ≡ true) → (d : ℕ) → slice_get (raster ++ c ∷ []) 0 ≡ Some d → IsTrue (holds_pixels form d)
+  first_of_push : (raster : List ℕ) (c : ℕ) → ((d : ℕ) → slice_get raster 0 ≡ Some d → IsTrue (holds_pixels form d))
+      → (raster ≡ [] → holds_pixels form c ≡ true) → (d : ℕ) → slice_get (raster ++ c ∷ []) 0 ≡ Some d → IsTrue (holds_pixels form d)
   first_of_push [] c h p d e = let same : c ≡ d = cc in rw same at (p refl)
   first_of_push (x ∷ raster) c h p d e = h d e
 
   -- a byte that holds pixels, or white space, more
-  pub raster_byte : (front width height raster : List ℕ) (c : ℕ) → IsInRaster form limit front width height raster → (holds_pixels form c || is_white c) ≡ true → (raster ≡ [] → holds_pixels form c ≡ true) → IsInRaster form limit (front ++ c ∷ []) width height (raster ++ c ∷ [])
+  pub raster_byte : (front width height raster : List ℕ) (c : ℕ) → IsInRaster form limit front width height raster → (holds_pixels form c || is_white c) ≡ true
+      → (raster ≡ [] → holds_pixels form c ≡ true) → IsInRaster form limit (front ++ c ∷ []) width height (raster ++ c ∷ [])
   raster_byte front width height raster c h b p = record {
     before = h.before;
     ending = h.ending;
@@ -170,7 +185,8 @@ module _ (form : Form) (limit : ℕ) where
 
 module _ (limit : ℕ) where
   -- behind its digits
-  pub height_done_opens : (form : Form) (front width digits : List ℕ) → IsInHeight form limit front width digits → IsSide limit digits → GapLeadsTo form limit (λ f. IsInRaster form limit f width digits []) (λ f. IsBehindHeight form limit f width digits) front
+  pub height_done_opens : (form : Form) (front width digits : List ℕ) → IsInHeight form limit front width digits → IsSide limit digits
+      → GapLeadsTo form limit (λ f. IsInRaster form limit f width digits []) (λ f. IsBehindHeight form limit f width digits) front
   height_done_opens Plain front width digits h s =
       by_pieces Plain limit (λ f. IsInRaster Plain limit f width digits []) (MayComment.behind_side digits (inr (width, h)) s)
       (λ piece p. in_raster Plain limit front piece h s (IsGap.one p) (glue_open front piece))
@@ -183,12 +199,15 @@ module _ (limit : ℕ) where
   }
 
   -- behind white space or a comment there
-  pub behind_opens : (form : Form) (front width height : List ℕ) → IsBehindHeight form limit front width height → GapLeadsTo form limit (λ f. IsInRaster form limit f width height []) (λ f. IsBehindHeight form limit f width height) front
+  pub behind_opens : (form : Form) (front width height : List ℕ) → IsBehindHeight form limit front width height
+      → GapLeadsTo form limit (λ f. IsInRaster form limit f width height []) (λ f. IsBehindHeight form limit f width height) front
   behind_opens Plain front width height h =
       by_pieces Plain limit (λ f. IsInRaster Plain limit f width height []) (MayComment.behind_height width height h)
-      (λ piece p. in_raster Plain limit h.before (h.ending ++ piece) h.in_height h.height_done (gap_push h.ends_header p) (glue_gap front h.before h.ending piece h.front_is))
+      (λ piece p. in_raster Plain limit h.before (h.ending ++ piece) h.in_height h.height_done (gap_push h.ends_header p)
+      (glue_gap front h.before h.ending piece h.front_is))
   behind_opens Packed front width height h = record {
-    by_white = λ c w. in_raster Packed limit h.before (h.comments ++ c ∷ []) h.in_height h.height_done (IsOneWhite.behind h.comments c h.are_comments w) (glue_piece front h.before h.comments (c ∷ []) h.front_is ∙ sym (append-nil (h.before ++ (h.comments ++ c ∷ []))));
+    by_white = λ c w. in_raster Packed limit h.before (h.comments ++ c ∷ []) h.in_height h.height_done (IsOneWhite.behind h.comments c h.are_comments w)
+        (glue_piece front h.before h.comments (c ∷ []) h.front_is ∙ sym (append-nil (h.before ++ (h.comments ++ c ∷ []))));
     by_comment = record {
       may = MayComment.behind_height width height h;
       onward = λ comment p. record {

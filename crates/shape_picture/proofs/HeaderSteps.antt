@@ -1,8 +1,10 @@
 -- Each step of the header's machine keeps what its states say of the grammar, or finds the fault that the byte decides.
 -- The steps are those of the code; the meanings are those of `Pbm`.
-use Rattle.std.proofs.Common.{◌≡◌, ℕ, ◌+◌, ◌-◌, ◌*◌, ◌≤◌, true, false, List, [], ◌∷◌, ◌++◌, length, refl, sym, ap, ◌∙◌, inl, inr, arith, Ok, Err, All, Bool, ltb, leb, ⊎_elim}
+use Rattle.std.proofs.Common.{◌≡◌, ℕ, ◌+◌, ◌-◌, ◌*◌, ◌≤◌, true, false, List, [], ◌∷◌, ◌++◌, length, refl, sym, ap, ◌∙◌, inl, inr, arith, Ok, Err, All, Bool}
+use Rattle.std.proofs.Common.{ltb, leb, ⊎_elim}
 use Rattle.std.specs.Prelude.{◌&&◌, ◌==◌, ◌≢◌}
-use Rattle.std.proofs.lemmas.Bool.{ltb-true, ltb-false, leb-true, eqb-true, eqb-false, and_parts, and_cases, or_from, or_parts, cond_both, cases_Bool, and_from, false≢true, le-leb}
+use Rattle.std.proofs.lemmas.Bool.{ltb-true, ltb-false, leb-true, eqb-true, eqb-false, and_parts, and_cases, or_from, or_parts, cond_both, cases_Bool, and_from}
+use Rattle.std.proofs.lemmas.Bool.{false≢true, le-leb}
 use Rattle.std.proofs.lemmas.List.{length_push}
 use Rattle.shape_picture.specs.declared.fault.PictureFault.{PictureFault}
 use Rattle.shape_picture.specs.declared.fault.PictureFault.TheVariants as fault
@@ -15,9 +17,12 @@ use Rattle.shape_picture.specs.declared.header.Coming.TheVariants as coming
 use Rattle.shape_picture.specs.declared.header.Header.{Header}
 use Rattle.shape_picture.specs.declared.header.Header.TheVariants as header
 use Rattle.shape_picture.specs.declared.header.Progress.TheVariants as progress
-use Rattle.shape_picture.specs.Pbm.{is_white, is_line_end, is_stop, form_digit, IsDigit, IsSide, IsInHeight, IsInRaster, IsBehindHeight, IsInSide, IsUnfinished, IsUnfinishedBy, IsMisplaced, number_value, DecidesFault}
-use Rattle.shape_picture.specs.Header.{is_digit, before_side, after_side, gap_of, comment_end, opened, digit_step, header_step, IsSmall, IsInGap, IsAfterComment, IsInDigits, GapLeadsTo, HasDigits, HeaderReached, ProgressReached, StepAnswer}
-use Rattle.shape_picture.proofs.Grammar.{leads_to, magic_opens, width_opens, width_done_opens, height_opens, height_done_opens, behind_opens, open_comment, comment_more, comment_done, number_value-push, width_digit, height_digit}
+use Rattle.shape_picture.specs.Pbm.{is_white, is_line_end, is_stop, form_digit, IsDigit, IsSide, IsInHeight, IsInRaster, IsBehindHeight, IsInSide, IsUnfinished}
+use Rattle.shape_picture.specs.Pbm.{IsUnfinishedBy, IsMisplaced, number_value, DecidesFault}
+use Rattle.shape_picture.specs.Header.{is_digit, before_side, after_side, gap_of, comment_end, opened, digit_step, header_step, IsSmall, IsInGap}
+use Rattle.shape_picture.specs.Header.{IsAfterComment, IsInDigits, GapLeadsTo, HasDigits, HeaderReached, ProgressReached, StepAnswer}
+use Rattle.shape_picture.proofs.Grammar.{leads_to, magic_opens, width_opens, width_done_opens, height_opens, height_done_opens, behind_opens, open_comment}
+use Rattle.shape_picture.proofs.Grammar.{comment_more, comment_done, number_value-push, width_digit, height_digit}
 
 pub digit_is : (c : ℕ) → is_digit c ≡ true → IsDigit c
 digit_is c e = let p = and_parts (leb 48 c) (leb c 57) e in (leb-true 48 c p.0, leb-true c 57 p.1)
@@ -36,7 +41,9 @@ module _ (form : Form) (limit : ℕ) where
   gap_comes (coming.Raster w h) front i = i
 
   -- a byte where white space or a comment may follow
-  opened_answer : (t : Coming) (front : List ℕ) (c : ℕ) (other : PictureFault) → GapLeadsTo form limit (IsInGap form limit t) (IsAfterComment form limit t) front → (is_stop c ≡ false → DecidesFault limit front c other) → StepAnswer limit front c (opened form t c other)
+  opened_answer : (t : Coming) (front : List ℕ) (c : ℕ) (other : PictureFault)
+      → GapLeadsTo form limit (IsInGap form limit t) (IsAfterComment form limit t) front → (is_stop c ≡ false → DecidesFault limit front c other)
+      → StepAnswer limit front c (opened form t c other)
   opened_answer t front c other h d =
       cond_both (is_white c) (Ok (gap_of form t)) _ (StepAnswer limit front c)
       (λ w. gap_comes t (front ++ c ∷ []) (h.by_white c w))
@@ -45,7 +52,8 @@ module _ (form : Form) (limit : ℕ) where
       (λ e. d (or_from (is_white c) (c == 35) w e)))
 
   -- the gap before a side goes on
-  before_opens : (s : Side) (front : List ℕ) → IsInGap form limit (before_side s) front → GapLeadsTo form limit (IsInGap form limit (before_side s)) (IsAfterComment form limit (before_side s)) front
+  before_opens : (s : Side) (front : List ℕ) → IsInGap form limit (before_side s) front
+      → GapLeadsTo form limit (IsInGap form limit (before_side s)) (IsAfterComment form limit (before_side s)) front
   before_opens side.Width front h = width_opens form limit front h
   before_opens (side.Height w) front h =
       let T = λ (f : List ℕ). IsInHeight form limit f h.0 [] in
@@ -53,20 +61,24 @@ module _ (form : Form) (limit : ℕ) where
       leads_to form limit T T V V (λ f i. (h.0, h.1, i)) (λ f i. (h.0, h.1, i)) (height_opens form limit front h.0 h.2)
 
   -- a side that is done ends
-  after_opens : (s : Side) (v : ℕ) (front : List ℕ) → (h : HasDigits form limit s v front) → IsSide limit h.digits → GapLeadsTo form limit (IsInGap form limit (after_side s v)) (IsAfterComment form limit (after_side s v)) front
+  after_opens : (s : Side) (v : ℕ) (front : List ℕ) → (h : HasDigits form limit s v front) → IsSide limit h.digits
+      → GapLeadsTo form limit (IsInGap form limit (after_side s v)) (IsAfterComment form limit (after_side s v)) front
   after_opens side.Width v front h d =
       let T = λ (f : List ℕ). IsInHeight form limit f h.digits [] in
       let V = IsInGap form limit (coming.Height v) in
       leads_to form limit T T V V (λ f i. (h.digits, h.value, i)) (λ f i. (h.digits, h.value, i)) (width_done_opens form limit front h.digits h.within d)
   after_opens (side.Height w) v front h d =
       let i = h.within in
-      leads_to form limit (λ f. IsInRaster form limit f i.0 h.digits []) (λ f. IsBehindHeight form limit f i.0 h.digits) (IsInGap form limit (coming.Raster w v)) (IsAfterComment form limit (coming.Raster w v))
+      leads_to form limit (λ f. IsInRaster form limit f i.0 h.digits []) (λ f. IsBehindHeight form limit f i.0 h.digits)
+      (IsInGap form limit (coming.Raster w v)) (IsAfterComment form limit (coming.Raster w v))
       (λ f r. (i.0, h.digits, i.1, h.value, r)) (λ f r. (i.0, h.digits, i.1, h.value, r)) (height_done_opens limit form front i.0 h.digits i.2 d)
 
   -- a comment behind the height ends
-  closing_opens : (w h : ℕ) (front : List ℕ) → IsAfterComment form limit (coming.Raster w h) front → GapLeadsTo form limit (IsInGap form limit (coming.Raster w h)) (IsAfterComment form limit (coming.Raster w h)) front
+  closing_opens : (w h : ℕ) (front : List ℕ) → IsAfterComment form limit (coming.Raster w h) front
+      → GapLeadsTo form limit (IsInGap form limit (coming.Raster w h)) (IsAfterComment form limit (coming.Raster w h)) front
   closing_opens w h front i =
-      leads_to form limit (λ f. IsInRaster form limit f i.0 i.1 []) (λ f. IsBehindHeight form limit f i.0 i.1) (IsInGap form limit (coming.Raster w h)) (IsAfterComment form limit (coming.Raster w h))
+      leads_to form limit (λ f. IsInRaster form limit f i.0 i.1 []) (λ f. IsBehindHeight form limit f i.0 i.1) (IsInGap form limit (coming.Raster w h))
+      (IsAfterComment form limit (coming.Raster w h))
       (λ f r. (i.0, i.1, i.2, i.3, r)) (λ f r. (i.0, i.1, i.2, i.3, r)) (behind_opens limit form front i.0 i.1 i.4)
 
   -- the digits of a side, as the faults speak of them
@@ -86,15 +98,18 @@ module _ (form : Form) (limit : ℕ) where
   small_digits side.Width front digits h = h.within
   small_digits (side.Height w) front digits h = h.2.within
 
-  more_digits : (s : Side) (front digits : List ℕ) (c : ℕ) → IsInDigits form limit s front digits → IsDigit c → number_value digits * 10 + (c - 48) ≤ limit → IsInDigits form limit s (front ++ c ∷ []) (digits ++ c ∷ [])
+  more_digits : (s : Side) (front digits : List ℕ) (c : ℕ) → IsInDigits form limit s front digits → IsDigit c → number_value digits * 10 + (c - 48) ≤ limit
+      → IsInDigits form limit s (front ++ c ∷ []) (digits ++ c ∷ [])
   more_digits side.Width front digits c h d l = width_digit form limit front digits c h d l
   more_digits (side.Height w) front digits c h d l = (h.0, h.1, height_digit form limit front h.0 digits c h.2 d l)
 
   -- a digit more
-  digit_answer : (s : Side) (v : ℕ) (front digits : List ℕ) (c : ℕ) → IsInDigits form limit s front digits → number_value digits ≡ v → is_digit c ≡ true → StepAnswer limit front c (digit_step form limit s v c)
+  digit_answer : (s : Side) (v : ℕ) (front digits : List ℕ) (c : ℕ) → IsInDigits form limit s front digits → number_value digits ≡ v → is_digit c ≡ true
+      → StepAnswer limit front c (digit_step form limit s v c)
   digit_answer s v front digits c h e d =
       let k : number_value (digits ++ c ∷ []) ≡ v * 10 + (c - 48) = number_value-push digits c ∙ ap (λ (n : ℕ). n * 10 + (c - 48)) e in
-      cond_both (ltb limit (v * 10 + (c - 48))) (Err (fault.SideTooLarge (v * 10 + (c - 48)))) (Ok (progress.More (header.Digits form s (v * 10 + (c - 48))))) (StepAnswer limit front c)
+      cond_both (ltb limit (v * 10 + (c - 48))) (Err (fault.SideTooLarge (v * 10 + (c - 48)))) (Ok (progress.More (header.Digits form s (v * 10 + (c - 48)))))
+      (StepAnswer limit front c)
       (λ l. (form, digits, in_side s front digits h, digit_is c d, sym k, ltb-true limit (v * 10 + (c - 48)) l))
       (λ l. record {
         digits = digits ++ c ∷ [];
@@ -104,7 +119,8 @@ module _ (form : Form) (limit : ℕ) where
       })
 
   -- a byte behind digits that is none
-  digits_end : (at : ℕ) (s : Side) (v : ℕ) (front : List ℕ) (c : ℕ) → at ≡ length front → HasDigits form limit s v front → is_digit c ≡ false → StepAnswer limit front c (header_step limit at (header.Digits form s v) c)
+  digits_end : (at : ℕ) (s : Side) (v : ℕ) (front : List ℕ) (c : ℕ) → at ≡ length front → HasDigits form limit s v front → is_digit c ≡ false
+      → StepAnswer limit front c (header_step limit at (header.Digits form s v) c)
   digits_end at s v front c e h d =
       rw d (cond_both ((v == 0) && is_stop c) (Err fault.ZeroSide) (opened form (after_side s v) c (fault.BadNumber at)) (StepAnswer limit front c)
       (λ z. let p = and_parts (v == 0) (is_stop c) z in (form, h.digits, in_side s front h.digits h.within, h.some, h.value ∙ eqb-true v 0 p.0, p.1))
@@ -133,7 +149,8 @@ module _ (limit : ℕ) where
   comment_comes Packed (coming.Raster w h) front i = i
 
   -- a byte more in each state
-  pub step_answer : (at : ℕ) (s : Header) (front : List ℕ) (c : ℕ) → at ≡ length front → HeaderReached limit s front → StepAnswer limit front c (header_step limit at s c)
+  pub step_answer : (at : ℕ) (s : Header) (front : List ℕ) (c : ℕ) → at ≡ length front → HeaderReached limit s front
+      → StepAnswer limit front c (header_step limit at s c)
   step_answer at header.Start front c e h =
       cond_both (c == 80) (Ok (progress.More header.Letter)) (Err fault.NotPlain) (StepAnswer limit front c)
       (λ t. rw (h, eqb-true c 80 t) refl)
@@ -144,19 +161,23 @@ module _ (limit : ℕ) where
       (λ t. cond_both (c == 52) (Ok (progress.More (header.Magic Packed))) (Err fault.NotPlain) (StepAnswer limit front c)
       (λ u. rw (h, eqb-true c 52 u) refl)
       (λ u. rw h (Plain, refl, no_form c t u)))
-  step_answer at (header.Magic form) front c e h = opened_answer form limit coming.Width front c fault.NotPlain (magic_opens form limit front h) (λ t. rw h (form, refl, t))
+  step_answer at (header.Magic form) front c e h = opened_answer form limit coming.Width front c fault.NotPlain (magic_opens form limit front h)
+      (λ t. rw h (form, refl, t))
   step_answer at (header.Gap form s) front c e h =
       cond_both (is_digit c) (digit_step form limit s 0 c) (opened form (before_side s) c (fault.BadNumber at)) (StepAnswer limit front c)
       (λ d. digit_answer form limit s 0 front [] c (gap_digits form limit s front h) refl d)
-      (λ d. opened_answer form limit (before_side s) front c (fault.BadNumber at) (before_opens form limit s front h) (λ t. (e, IsMisplaced.in_side form [] (in_side form limit s front [] (gap_digits form limit s front h)) t (not_digit c d))))
+      (λ d. opened_answer form limit (before_side s) front c (fault.BadNumber at) (before_opens form limit s front h)
+      (λ t. (e, IsMisplaced.in_side form [] (in_side form limit s front [] (gap_digits form limit s front h)) t (not_digit c d))))
   step_answer at (header.Comment form t) front c e h =
       cond_both (is_line_end c) (Ok (comment_end form t)) (Ok (progress.More (header.Comment form t))) (StepAnswer limit front c)
       (λ l. comment_comes form t (front ++ c ∷ []) (comment_done form limit (IsAfterComment form limit t) front c h l))
       (λ l. comment_more form limit (IsAfterComment form limit t) front c h l)
   step_answer at (header.Digits form s v) front c e h =
-      ⊎_elim (λ d. rw d (digit_answer form limit s v front h.digits c h.within h.value d)) (λ d. digits_end form limit at s v front c e h d) (cases_Bool (is_digit c))
+      ⊎_elim (λ d. rw d (digit_answer form limit s v front h.digits c h.within h.value d)) (λ d. digits_end form limit at s v front c e h d)
+      (cases_Bool (is_digit c))
   step_answer at (header.Closing w h) front c e i =
-      opened_answer Packed limit (coming.Raster w h) front c (fault.BadNumber at) (closing_opens Packed limit w h front i) (λ t. (e, IsMisplaced.behind_comments i.0 i.1 i.4 t))
+      opened_answer Packed limit (coming.Raster w h) front c (fault.BadNumber at) (closing_opens Packed limit w h front i)
+      (λ t. (e, IsMisplaced.behind_comments i.0 i.1 i.4 t))
 
   -- no state is a whole picture or a fault
   pub unfinished : (s : Header) (front : List ℕ) → HeaderReached limit s front → IsUnfinished limit front
@@ -164,7 +185,8 @@ module _ (limit : ℕ) where
   unfinished header.Letter front h = (Plain, IsUnfinishedBy.in_magic 1 (omega arith) h)
   unfinished (header.Magic form) front h = (form, IsUnfinishedBy.in_magic 2 (omega arith) h)
   unfinished (header.Gap form s) front h = (form, IsUnfinishedBy.in_side [] (in_side form limit s front [] (gap_digits form limit s front h)))
-  unfinished (header.Comment form t) front h = (form, IsUnfinishedBy.in_comment (record { before = h.before; text = h.text; may = h.opens.may; no_end = h.no_end; front_is = h.front_is }))
+  unfinished (header.Comment form t) front h =
+      (form, IsUnfinishedBy.in_comment (record { before = h.before; text = h.text; may = h.opens.may; no_end = h.no_end; front_is = h.front_is }))
   unfinished (header.Digits form s v) front h = (form, IsUnfinishedBy.in_side h.digits (in_side form limit s front h.digits h.within))
   unfinished (header.Closing w h) front i = (Packed, IsUnfinishedBy.behind_height i.0 i.1 i.4)
 

@@ -1,6 +1,7 @@
 -- Rows of bytes and the pixels that their bits are: facts of lists and numbers.
 -- A byte more makes a row go on, or makes it whole so that the next begins.
-use Rattle.std.proofs.Common.{◌≡◌, ℕ, zero, suc, ◌+◌, ◌-◌, ◌*◌, ◌/◌, ◌%◌, ◌<◌, ◌≤◌, min, false, List, [], ◌∷◌, ◌++◌, length, get_or, take, drop, All, flat_map, refl, sym, ap, ◌∙◌, ⊎_elim, arith}
+use Rattle.std.proofs.Common.{◌≡◌, ℕ, zero, suc, ◌+◌, ◌-◌, ◌*◌, ◌/◌, ◌%◌, ◌<◌, ◌≤◌, min, false, List, [], ◌∷◌, ◌++◌, length, get_or, take, drop, All, flat_map}
+use Rattle.std.proofs.Common.{refl, sym, ap, ◌∙◌, ⊎_elim, arith}
 use Rattle.std.specs.Prelude.{◌==◌}
 use Rattle.std.specs.List.{concat}
 use Rattle.std.specs.Int.{bit_at}
@@ -130,7 +131,8 @@ module _ (w : ℕ) (rows : List (List ℕ)) (row : List ℕ) (c p : ℕ) where
     row_length = a;
     begun = omega (arith, length_push row c);
     place = omega (arith, length_push row c, e);
-    pixels = ap (λ l. flat_map (row_pixels w) rows ++ l) (flat_map-push bits_of row c) ∙ sym (append_assoc (flat_map (row_pixels w) rows) (flat_map bits_of row) (bits_of c)) ∙ rw e refl;
+    pixels = ap (λ l. flat_map (row_pixels w) rows ++ l) (flat_map-push bits_of row c)
+        ∙ sym (append_assoc (flat_map (row_pixels w) rows) (flat_map bits_of row) (bits_of c)) ∙ rw e refl;
   }
 
   row_done : AreLong (row_bytes w) rows → length row * 8 + p ≡ w → length row * 8 < w → w ≤ length row * 8 + 8 → RowGoesOn w rows row c p
@@ -140,15 +142,18 @@ module _ (w : ℕ) (rows : List (List ℕ)) (row : List ℕ) (c p : ℕ) where
       let long : length r ≡ row_bytes w = length_push row c ∙ sym (between w (row_bytes w) (length row) d.0 d.1 l m) in
       let B = flat_map bits_of row in
       let n : w ≡ length B + p = sym e ∙ ap (λ (n : ℕ). n + p) (sym (length-bits row)) in
-      let whole : row_pixels w r ≡ B ++ take p (bits_of c) = ap (take w) (flat_map-push bits_of row c) ∙ ap (λ (n : ℕ). take n (B ++ bits_of c)) n ∙ take-append-add B (bits_of c) p in
+      let whole : row_pixels w r ≡ B ++ take p (bits_of c) = ap (take w) (flat_map-push bits_of row c) ∙ ap (λ (n : ℕ). take n (B ++ bits_of c)) n
+      ∙ take-append-add B (bits_of c) p in
       record {
         next_rows = rows ++ r ∷ [];
         next_row = [];
-        bytes = append-nil (concat (rows ++ r ∷ [])) ∙ concat-append rows (r ∷ []) ∙ ap (λ l. concat rows ++ l) (append-nil r) ∙ sym (append_assoc (concat rows) row (c ∷ []));
+        bytes = append-nil (concat (rows ++ r ∷ [])) ∙ concat-append rows (r ∷ []) ∙ ap (λ l. concat rows ++ l) (append-nil r)
+            ∙ sym (append_assoc (concat rows) row (c ∷ []));
         row_length = All-push (λ row. length row ≡ row_bytes w) rows r a long;
         begun = omega (arith, l);
         place = ap (λ (n : ℕ). n * w + 0 * 8) (length_push rows r) ∙ next_place (length rows) (length row * 8) w p e;
-        pixels = append-nil (flat_map (row_pixels w) (rows ++ r ∷ [])) ∙ flat_map-push (row_pixels w) rows r ∙ ap (λ l. flat_map (row_pixels w) rows ++ l) whole ∙ sym (append_assoc (flat_map (row_pixels w) rows) B (take p (bits_of c)));
+        pixels = append-nil (flat_map (row_pixels w) (rows ++ r ∷ [])) ∙ flat_map-push (row_pixels w) rows r ∙ ap (λ l. flat_map (row_pixels w) rows ++ l) whole
+            ∙ sym (append_assoc (flat_map (row_pixels w) rows) B (take p (bits_of c)));
       }
 
   pub row_goes_on : AreLong (row_bytes w) rows → length row * 8 < w → p ≡ min (w - length row * 8) 8 → RowGoesOn w rows row c p

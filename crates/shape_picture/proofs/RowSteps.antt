@@ -1,6 +1,7 @@
 -- What a byte more of the rows of the form `P4` means for the picture.
 -- The steps are those of the code; the meanings are those of `Pbm`.
-use Rattle.std.proofs.Common.{◌≡◌, ℕ, ◌+◌, ◌-◌, ◌*◌, ◌%◌, ◌<◌, ◌≤◌, min, Bool, false, List, [], ◌∷◌, ◌++◌, length, take, replicate, flat_map, refl, sym, ap, ◌∙◌, arith}
+use Rattle.std.proofs.Common.{◌≡◌, ℕ, ◌+◌, ◌-◌, ◌*◌, ◌%◌, ◌<◌, ◌≤◌, min, Bool, false, List, [], ◌∷◌, ◌++◌, length, take, replicate, flat_map, refl, sym, ap}
+use Rattle.std.proofs.Common.{◌∙◌, arith}
 use Rattle.std.specs.List.{concat}
 use Rattle.std.proofs.Math.Nat.{min-le_right}
 use Rattle.std.proofs.lemmas.Nat.{mul-le, mod-mul-add}
@@ -18,7 +19,8 @@ use Rattle.shape_picture.proofs.ByteSteps.{spelled}
 use Rattle.shape_picture.proofs.RowBytes.{less_rows, whole_rows, length-concat, row_longer, RowGoesOn, row_goes_on}
 
 -- no byte of a row yet
-pub rows_start : (limit w h : ℕ) (X : Picture) (n : List ℕ) (front : List ℕ) → IsInGap Packed limit (coming.Raster w h) front → X ≡ blank n → n ≡ w ∷ h ∷ [] → RowsSoFar limit X 0 front
+pub rows_start : (limit w h : ℕ) (X : Picture) (n : List ℕ) (front : List ℕ) → IsInGap Packed limit (coming.Raster w h) front → X ≡ blank n → n ≡ w ∷ h ∷ []
+    → RowsSoFar limit X 0 front
 rows_start limit w h X n front (width, height, a, b, r) e s =
     let l = some_pixels (number_value width) (number_value height) r.in_height.width_done.value.0 r.height_done.value.0 in
     let k : 1 ≤ number_value width = r.in_height.width_done.value.0 in
@@ -35,7 +37,8 @@ rows_start limit w h X n front (width, height, a, b, r) e s =
     }
 
 -- the sides that the digits give are those of the picture
-pub same_sides : {limit n w h : ℕ} {X : Picture} {front : List ℕ} → (r : RowsSoFar limit X n front) → X.sides ≡ w ∷ h ∷ [] → (number_value r.width ≡ w) × (number_value r.width * number_value r.height ≡ w * h)
+pub same_sides : {limit n w h : ℕ} {X : Picture} {front : List ℕ} → (r : RowsSoFar limit X n front) → X.sides ≡ w ∷ h ∷ []
+    → (number_value r.width ≡ w) × (number_value r.width * number_value r.height ≡ w * h)
 same_sides {w} {h} r e =
     let s : number_value r.width ∷ number_value r.height ∷ [] ≡ w ∷ h ∷ [] = sym r.first.sides ∙ e in
     let a : number_value r.width ≡ w = cc in
@@ -50,8 +53,16 @@ rows_unfinished limit h =
     let few = less_rows (length h.rows) w (length h.row * 8) (number_value h.height) _ h.place h.first.fewer in
     let m = mul-le (length h.rows + 1) b (number_value h.height) b (omega (arith, few)) (omega arith) in
     let c : length (concat h.rows) ≡ length h.rows * b = length-concat b h.rows h.row_length in
-    let r : length h.row < b = row_longer w (length h.row) h.begun in
-    (Packed, IsUnfinishedBy.in_picture (concat h.rows ++ h.row) (h.width, h.height, h.at, by_numbers (length h.rows) b (number_value h.height * b) _ _ (length-append (concat h.rows) h.row ∙ ap (λ (n : ℕ). n + length h.row) c) r m))
+    let r : length h.row < b = row_longer w (length h.row) h.begun in (
+      Packed,
+      IsUnfinishedBy.in_picture (concat h.rows ++ h.row) (
+        h.width,
+        h.height,
+        h.at,
+        by_numbers (length h.rows) b (number_value h.height * b) _ _
+            (length-append (concat h.rows) h.row ∙ ap (λ (n : ℕ). n + length h.row) c) r m,
+      ),
+    )
   where
     by_numbers : (a b t n k : ℕ) → n ≡ a * b + k → k < b → (a + 1) * b ≤ t → n < t
     by_numbers a b t n k e l m = let s : (a + 1) * b ≡ a * b + b = grind arith in omega (arith, s)
@@ -75,7 +86,8 @@ module _ (limit : ℕ) (X Y : Picture) (n p : ℕ) (front : List ℕ) (c : ℕ) 
   known = flat_map (row_pixels (number_value h.width)) h.rows ++ flat_map bits_of h.row
 
   -- a byte whose pixels are not the last
-  pub rows_next : Y.sides ≡ X.sides → Y.values ≡ (known ++ take p (bits_of c)) ++ replicate (number_value h.width * number_value h.height - (n + p)) false → n + p < number_value h.width * number_value h.height → RowsSoFar limit Y (n + p) (front ++ c ∷ [])
+  pub rows_next : Y.sides ≡ X.sides → Y.values ≡ (known ++ take p (bits_of c)) ++ replicate (number_value h.width * number_value h.height - (n + p)) false
+      → n + p < number_value h.width * number_value h.height → RowsSoFar limit Y (n + p) (front ++ c ∷ [])
   rows_next s e l =
       let g = goes_on in
       record {
@@ -91,7 +103,9 @@ module _ (limit : ℕ) (X Y : Picture) (n p : ℕ) (front : List ℕ) (c : ℕ) 
       }
 
   -- the last byte was read
-  pub rows_spelled : (longest : ℕ) (rest : List ℕ) → Y.sides ≡ X.sides → Y.values ≡ (known ++ take p (bits_of c)) ++ replicate (number_value h.width * number_value h.height - (n + p)) false → n + p ≡ number_value h.width * number_value h.height → length front < longest → Pbm limit longest ((front ++ c ∷ []) ++ rest) Y (length front + 1)
+  pub rows_spelled : (longest : ℕ) (rest : List ℕ) → Y.sides ≡ X.sides
+      → Y.values ≡ (known ++ take p (bits_of c)) ++ replicate (number_value h.width * number_value h.height - (n + p)) false
+      → n + p ≡ number_value h.width * number_value h.height → length front < longest → Pbm limit longest ((front ++ c ∷ []) ++ rest) Y (length front + 1)
   rows_spelled longest rest s e l m =
       let w = number_value h.width in
       let g = goes_on in
@@ -104,6 +118,7 @@ module _ (limit : ℕ) (X Y : Picture) (n p : ℕ) (front : List ℕ) (c : ℕ) 
         as_many = z.0;
         row_length = g.row_length;
         bytes_are = sym g.bytes ∙ ap (λ (l : List ℕ). concat g.next_rows ++ l) none ∙ append-nil (concat g.next_rows);
-        values_are = v.0 ∙ sym g.pixels ∙ ap (λ (l : List ℕ). flat_map (row_pixels w) g.next_rows ++ flat_map bits_of l) none ∙ append-nil (flat_map (row_pixels w) g.next_rows);
+        values_are = v.0 ∙ sym g.pixels ∙ ap (λ (l : List ℕ). flat_map (row_pixels w) g.next_rows ++ flat_map bits_of l) none
+            ∙ append-nil (flat_map (row_pixels w) g.next_rows);
       })
       v.1 refl m

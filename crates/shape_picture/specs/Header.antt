@@ -1,5 +1,6 @@
 -- The header of a PBM as a machine, one byte after another, and what is known of the bytes read in each of its states.
-use Rattle.std.specs.Prelude.{◌≡◌, ℕ, ◌+◌, ◌-◌, ◌*◌, ◌<◌, ◌≤◌, ◌==◌, ◌&&◌, nat_le, nat_lt, Bool, false, IsTrue, if◌then◌else◌, List, [], ◌∷◌, ◌++◌, length, All, Result, Ok, Err}
+use Rattle.std.specs.Prelude.{◌≡◌, ℕ, ◌+◌, ◌-◌, ◌*◌, ◌<◌, ◌≤◌, ◌==◌, ◌&&◌, nat_le, nat_lt, Bool, false, IsTrue, if◌then◌else◌, List, [], ◌∷◌, ◌++◌, length, All}
+use Rattle.std.specs.Prelude.{Result, Ok, Err}
 use Rattle.shape_picture.specs.declared.fault.PictureFault.{PictureFault}
 use Rattle.shape_picture.specs.declared.fault.PictureFault.TheVariants as fault
 use Rattle.shape_picture.specs.declared.header.Form.{Form}
@@ -12,7 +13,8 @@ use Rattle.shape_picture.specs.declared.header.Header.{Header}
 use Rattle.shape_picture.specs.declared.header.Header.TheVariants as header
 use Rattle.shape_picture.specs.declared.header.Progress.{Progress}
 use Rattle.shape_picture.specs.declared.header.Progress.TheVariants as progress
-use Rattle.shape_picture.specs.Pbm.{is_white, is_line_end, is_stop, form_digit, magic, IsComment, number_value, IsInWidth, IsInHeight, IsInRaster, IsBehindHeight, MayComment, DecidesFault}
+use Rattle.shape_picture.specs.Pbm.{is_white, is_line_end, is_stop, form_digit, magic, IsComment, number_value, IsInWidth, IsInHeight, IsInRaster}
+use Rattle.shape_picture.specs.Pbm.{IsBehindHeight, MayComment, DecidesFault}
 
 -- ---- the machine
 
@@ -52,7 +54,8 @@ opened form t c other = if is_white c then Ok (gap_of form t) else if c == 35 th
 
 -- a digit of a side
 abbrev pub digit_step : Form → ℕ → Side → ℕ → ℕ → Result Progress PictureFault
-digit_step form limit s v c = if nat_lt limit (v * 10 + (c - 48)) then Err (fault.SideTooLarge (v * 10 + (c - 48))) else Ok (progress.More (header.Digits form s (v * 10 + (c - 48))))
+digit_step form limit s v c = if nat_lt limit (v * 10 + (c - 48)) then Err (fault.SideTooLarge (v * 10 + (c - 48))) else Ok
+    (progress.More (header.Digits form s (v * 10 + (c - 48))))
 
 -- a byte of the magic number
 abbrev pub magic_step : ℕ → Header → Result Progress PictureFault → ℕ → Result Progress PictureFault
@@ -69,7 +72,8 @@ header_step limit at header.Letter c = form_step c
 header_step limit at (header.Magic form) c = opened form coming.Width c fault.NotPlain
 header_step limit at (header.Gap form s) c = if is_digit c then digit_step form limit s 0 c else opened form (before_side s) c (fault.BadNumber at)
 header_step limit at (header.Comment form t) c = if is_line_end c then Ok (comment_end form t) else Ok (progress.More (header.Comment form t))
-header_step limit at (header.Digits form s v) c = if is_digit c then digit_step form limit s v c else if v == 0 && is_stop c then Err fault.ZeroSide else opened form (after_side s v) c (fault.BadNumber at)
+header_step limit at (header.Digits form s v) c = if is_digit c then digit_step form limit s v c else if v == 0 && is_stop c then
+    Err fault.ZeroSide else opened form (after_side s v) c (fault.BadNumber at)
 header_step limit at (header.Closing w h) c = opened Packed (coming.Raster w h) c (fault.BadNumber at)
 
 -- the digits so far are within the limit
@@ -83,11 +87,13 @@ IsSmall limit _ = Unit {0}
 abbrev pub IsInGap : Form → ℕ → Coming → List ℕ → Type 0
 IsInGap form limit coming.Width front = IsInWidth form limit front []
 IsInGap form limit (coming.Height w) front = (width : List ℕ) × (number_value width ≡ w) × IsInHeight form limit front width []
-IsInGap form limit (coming.Raster w h) front = (width height : List ℕ) × (number_value width ≡ w) × (number_value height ≡ h) × IsInRaster form limit front width height []
+IsInGap form limit (coming.Raster w h) front = (width height : List ℕ) × (number_value width ≡ w) × (number_value height ≡ h)
+    × IsInRaster form limit front width height []
 
 -- the front ends behind a comment before what comes
 abbrev pub IsAfterComment : Form → ℕ → Coming → List ℕ → Type 0
-IsAfterComment form limit (coming.Raster w h) front = (width height : List ℕ) × (number_value width ≡ w) × (number_value height ≡ h) × IsBehindHeight form limit front width height
+IsAfterComment form limit (coming.Raster w h) front = (width height : List ℕ) × (number_value width ≡ w) × (number_value height ≡ h)
+    × IsBehindHeight form limit front width height
 IsAfterComment form limit t front = IsInGap form limit t front
 
 -- the front ends in these digits of the side

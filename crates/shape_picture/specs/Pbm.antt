@@ -1,7 +1,8 @@
 -- PBM, the bitmaps of Netpbm, in the form `P1`, a byte for each pixel, and the form `P4`, a bit for each: which bytes spell
 -- which picture, and which fault other bytes have. The grammar stands here and nothing of how a file is read; a file may be
 -- anything behind its picture.
-use Rattle.std.specs.Prelude.{◌≡◌, ◌≢◌, ◌⊎◌, ℕ, zero, suc, ◌+◌, ◌-◌, ◌*◌, ◌<◌, ◌≤◌, ◌==◌, ◌||◌, Bool, true, false, not, IsTrue, List, [], ◌∷◌, ◌++◌, length, map, filter, fold, take, slice_get, Some, All}
+use Rattle.std.specs.Prelude.{◌≡◌, ◌≢◌, ◌⊎◌, ℕ, zero, suc, ◌+◌, ◌-◌, ◌*◌, ◌<◌, ◌≤◌, ◌==◌, ◌||◌, Bool, true, false, not, IsTrue, List, [], ◌∷◌, ◌++◌, length}
+use Rattle.std.specs.Prelude.{map, filter, fold, take, slice_get, Some, All}
 use Rattle.std.specs.List.{concat, flat_map}
 use Rattle.std.specs.Int.{bit_at, div_ceil}
 use Rattle.shape_terms.specs.Points.{box_count}
@@ -257,10 +258,12 @@ pub data IsMisplaced (limit : ℕ) (front : List ℕ) (c : ℕ) : Type 0 where
 abbrev pub DecidesFault : ℕ → List ℕ → ℕ → PictureFault → Type 0
 DecidesFault limit front c fault.NotPlain = (form : Form) × (front ≡ take (length front) (magic form)) × IsWrongMagic (length front) c
 DecidesFault limit front c (fault.BadNumber i) = (i ≡ length front) × IsMisplaced limit front c
-DecidesFault limit front c fault.ZeroSide = (form : Form) × (digits : List ℕ) × IsInSide form limit front digits × (0 < length digits) × (number_value digits ≡ 0) × IsTrue (is_stop c)
+DecidesFault limit front c fault.ZeroSide = (form : Form) × (digits : List ℕ) × IsInSide form limit front digits × (0 < length digits)
+    × (number_value digits ≡ 0) × IsTrue (is_stop c)
 DecidesFault limit front c (fault.SideTooLarge value) = (form : Form) × (digits : List ℕ) × IsInSide form limit front digits × IsDigit c
     × (value ≡ number_value (digits ++ c ∷ [])) × (limit < value)
-DecidesFault limit front c (fault.BadByte i) = (i ≡ length front) × ((raster : List ℕ) × IsInPicture Plain limit front raster × (raster ≡ [] → c ≢ 35)) × (is_pixel c || is_white c ≡ false)
+DecidesFault limit front c (fault.BadByte i) = (i ≡ length front) × ((raster : List ℕ) × IsInPicture Plain limit front raster × (raster ≡ [] → c ≢ 35))
+    × (is_pixel c || is_white c ≡ false)
 DecidesFault limit front c _ = ⊥
 
 -- the bytes have the fault: a byte decides it, or the file ends before its picture does, or the greatest length is reached

@@ -1,5 +1,6 @@
 -- The raster of a PBM as a machine, one byte after another, and what is known of the bytes read.
-use Rattle.std.specs.Prelude.{◌≡◌, ℕ, ◌+◌, ◌-◌, ◌*◌, ◌%◌, ◌<◌, ◌==◌, ◌&&◌, min, Bool, true, false, not, if◌then◌else◌, List, [], ◌∷◌, ◌++◌, length, map, replicate, All, Result, Ok, Err}
+use Rattle.std.specs.Prelude.{◌≡◌, ℕ, ◌+◌, ◌-◌, ◌*◌, ◌%◌, ◌<◌, ◌==◌, ◌&&◌, min, Bool, true, false, not, if◌then◌else◌, List, [], ◌∷◌, ◌++◌, length, map}
+use Rattle.std.specs.Prelude.{replicate, All, Result, Ok, Err}
 use Rattle.std.specs.List.{concat, flat_map}
 use Rattle.shape_terms.specs.Pictures.{Picture}
 use Rattle.shape_picture.specs.declared.fault.PictureFault.{PictureFault}
@@ -7,7 +8,8 @@ use Rattle.shape_picture.specs.declared.fault.PictureFault.TheVariants as fault
 use Rattle.shape_picture.specs.declared.header.Form.TheVariants.{Plain, Packed}
 use Rattle.shape_picture.specs.declared.raster.Piece.{Piece}
 use Rattle.shape_picture.specs.declared.raster.Piece.TheVariants as piece
-use Rattle.shape_picture.specs.Pbm.{is_white, is_line_end, is_pixel, number_value, pixels_of, pixel_code, bits_of, row_bytes, row_pixels, IsInRaster, DecidesFault}
+use Rattle.shape_picture.specs.Pbm.{is_white, is_line_end, is_pixel, number_value, pixels_of, pixel_code, bits_of, row_bytes, row_pixels, IsInRaster}
+use Rattle.shape_picture.specs.Pbm.{DecidesFault}
 use Rattle.shape_picture.specs.Header.{CommentLeadsTo}
 
 -- ---- the values so far
@@ -24,7 +26,8 @@ pub record FirstValues (X : Picture) (width height n : ℕ) (known : List Bool) 
 -- what a byte is, within a comment or not, after so many pixels
 abbrev pub piece_of : Bool → ℕ → ℕ → ℕ → Result Piece PictureFault
 piece_of true n at c = Ok (piece.Gap (not (is_line_end c)))
-piece_of false n at c = if is_white c then Ok (piece.Gap false) else if (n == 0) && (c == 35) then Ok (piece.Gap true) else if is_pixel c then Ok (piece.Pixel (c == 49)) else Err (fault.BadByte at)
+piece_of false n at c = if is_white c then Ok (piece.Gap false) else if (n == 0) && (c == 35) then Ok (piece.Gap true) else if is_pixel c then
+    Ok (piece.Pixel (c == 49)) else Err (fault.BadByte at)
 
 -- the front ends within the raster, or within a comment before it
 abbrev pub IsAtRaster : ℕ → Bool → List ℕ → List ℕ → List ℕ → List ℕ → Type 0
@@ -33,7 +36,8 @@ IsAtRaster limit true front width height raster = (raster ≡ []) × CommentLead
 
 -- how the raster goes on by a byte c that is this
 abbrev pub RasterGoesOn : ℕ → List ℕ → ℕ → List ℕ → List ℕ → List ℕ → Piece → Type 0
-RasterGoesOn limit front c width height raster (piece.Gap k) = (more : List ℕ) × IsAtRaster limit k (front ++ c ∷ []) width height more × (pixels_of more ≡ pixels_of raster) × (raster ≡ [] → more ≡ [])
+RasterGoesOn limit front c width height raster (piece.Gap k) = (more : List ℕ) × IsAtRaster limit k (front ++ c ∷ []) width height more
+    × (pixels_of more ≡ pixels_of raster) × (raster ≡ [] → more ≡ [])
 RasterGoesOn limit front c width height raster (piece.Pixel b) = IsAtRaster limit false (front ++ c ∷ []) width height (raster ++ c ∷ []) × (c ≡ pixel_code b)
 
 -- what a byte says of the front before it

@@ -9,7 +9,7 @@ use Rattle.shape_terms.specs.Refutations.{Share, Step, IsStepOf}
 use Rattle.shape_terms.specs.Covers.{Evidence, IsEvidence}
 use Rattle.text_terms.specs.Forms.{counted}
 use Rattle.text_terms.specs.Weights.{IsStepIn, share, step_share}
-use Rattle.shape_cover.specs.Found.{IsShortLine, AreShortShares, IsShortEvidence}
+use Rattle.shape_line.specs.Found.{IsShortLine, AreShortShares, IsShortEvidence}
 use Rattle.piece_terms.specs.SplitLines.{SplitLine}
 use Rattle.piece_terms.specs.Lines.{Line, spelled}
 
@@ -33,5 +33,6 @@ shares_fit shares h = (h.few, λ i d l. (h.weights i d l, h.places i d l))
 pub gap_fits : (t : ℕ) (run : List Point) (v : Evidence) → t < 2 → IsEvidence t run v → IsShortEvidence v → spelled.IsLine (Line.Listed (SplitLine.Gap t v))
 gap_fits t run (Evidence.Turned i j) ht h s = (ht, (s.0, s.1))
 gap_fits t run (Evidence.Cut why) ht h s =
-    let steps : (counted 4 (step_share 2)).InRange why.steps = (s.few_steps, λ i d l. (s.steps i d l, step_in t (slice_index_or why.steps i d).step (h.1.steps_of_axis i d l))) in
+    let steps : (counted 4 (step_share 2)).InRange why.steps =
+    (s.few_steps, λ i d l. (s.steps i d l, step_in t (slice_index_or why.steps i d).step (h.1.steps_of_axis i d l))) in
     (ht, (shares_fit why.low s.low, (shares_fit why.high s.high, steps)))

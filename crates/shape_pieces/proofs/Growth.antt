@@ -25,7 +25,8 @@ use Rattle.shape_pieces.specs.Growing.{LeadsTo, HasSplits, HasPieces, IsContourA
 
 -- ---- any line
 
-pub front_more : (X : Picture) (s : State) (text : List ℕ) (l : Line) (h : LeadsTo X s text) → Claim X s l → spelled.IsLine l → BeginsWith (piece_report X) (text ++ line_text spelled l) (h.lines ++ l ∷ []) []
+pub front_more : (X : Picture) (s : State) (text : List ℕ) (l : Line) (h : LeadsTo X s text) → Claim X s l → spelled.IsLine l
+    → BeginsWith (piece_report X) (text ++ line_text spelled l) (h.lines ++ l ∷ []) []
 front_more X s text l h good fields = record {
   split = ap (λ t. t ++ line_text spelled l) (h.front.split ∙ append-nil _) ∙ sym (text_push spelled h.lines l []);
   fields = All-push spelled.IsLine h.lines l h.front.fields fields;
@@ -33,7 +34,8 @@ front_more X s text l h good fields = record {
   good = good_push (piece_report X) h.lines l h.front.good (subst (λ v. Claim X v l) (sym h.state) good);
 }
 
-pub line_more : (X : Picture) (s : State) (text : List ℕ) (l : Line) → LeadsTo X s text → Claim X s l → spelled.IsLine l → LeadsTo X (step s l) (text ++ line_text spelled l)
+pub line_more : (X : Picture) (s : State) (text : List ℕ) (l : Line) → LeadsTo X s text → Claim X s l → spelled.IsLine l
+    → LeadsTo X (step s l) (text ++ line_text spelled l)
 line_more X s text l h good fields = record {
   lines = h.lines ++ l ∷ [];
   front = front_more X s text l h good fields;
@@ -42,7 +44,8 @@ line_more X s text l h good fields = record {
 
 -- ---- the heading and the end
 
-pub heading_put : (X : Picture) (sides : Point) → sides ≡ map pos X.sides → spelled.IsLine (Line.Pieces sides) → HasSplits X 0 ([] ++ line_text spelled (Line.Pieces sides))
+pub heading_put : (X : Picture) (sides : Point) → sides ≡ map pos X.sides → spelled.IsLine (Line.Pieces sides)
+    → HasSplits X 0 ([] ++ line_text spelled (Line.Pieces sides))
 heading_put X sides e fields = record {
   stand = at_start;
   leads = line_more X State.Opening [] (Line.Pieces sides) (record { lines = []; front = begins_none (piece_report X) []; state = refl }) e fields;
@@ -50,27 +53,33 @@ heading_put X sides e fields = record {
   begun = refl;
 }
 
-pub end_put : (X : Picture) (contours : List Contour) (text : List ℕ) → AreContours X contours → HasSplits X (length contours) text → Holds (piece_report X) (text ++ line_text spelled Line.End)
-end_put X contours text are h = (h.leads.lines, front_more X (State.Listing h.stand) text Line.End h.leads (contours, are, record { full = h.full; all = h.begun }) tt)
+pub end_put : (X : Picture) (contours : List Contour) (text : List ℕ) → AreContours X contours → HasSplits X (length contours) text
+    → Holds (piece_report X) (text ++ line_text spelled Line.End)
+end_put X contours text are h =
+    (h.leads.lines, front_more X (State.Listing h.stand) text Line.End h.leads (contours, are, record { full = h.full; all = h.begun }) tt)
 
 -- ---- the lines of a contour
 
 module _ (X : Picture) (k : ℕ) (contour : Contour) (at : IsContourAt X k contour) where
   -- the next line of the contours
-  next_put : (w : Standing) (text : List ℕ) (l : SplitLine) → LeadsTo X (State.Listing w) text → IsNextLine at.contours w l → spelled.IsLine (Line.Listed l) → LeadsTo X (State.Listing (after_line w l)) (text ++ line_text spelled (Line.Listed l))
+  next_put : (w : Standing) (text : List ℕ) (l : SplitLine) → LeadsTo X (State.Listing w) text → IsNextLine at.contours w l → spelled.IsLine (Line.Listed l)
+      → LeadsTo X (State.Listing (after_line w l)) (text ++ line_text spelled (Line.Listed l))
   next_put w text l h good fields = line_more X (State.Listing w) text (Line.Listed l) h (at.contours, at.are, good) fields
 
   open_is : (w : Standing) → w.begun ≡ k + 1 → open_contour at.contours w ≡ contour
-  open_is w b = ap (λ i. slice_index_or at.contours i no_contour) (let q : w.begun - 1 ≡ k = omega arith in q) ∙ get_or_from_slice_get at.contours k contour no_contour at.there
+  open_is w b = ap (λ i. slice_index_or at.contours i no_contour) (let q : w.begun - 1 ≡ k = omega arith in q)
+      ∙ get_or_from_slice_get at.contours k contour no_contour at.there
 
   module _ (pieces : List Piece) (are : ArePieces contour.points pieces) where
-    pub chain_put : (c : Crack) (n m : ℕ) (text : List ℕ) → c ≡ contour.start → n ≡ length contour.points → m ≡ length pieces → HasSplits X k text → spelled.IsLine (Line.Listed (SplitLine.Chain c n m)) → HasPieces X k pieces 0 (text ++ line_text spelled (Line.Listed (SplitLine.Chain c n m)))
+    pub chain_put : (c : Crack) (n m : ℕ) (text : List ℕ) → c ≡ contour.start → n ≡ length contour.points → m ≡ length pieces → HasSplits X k text
+        → spelled.IsLine (Line.Listed (SplitLine.Chain c n m)) → HasPieces X k pieces 0 (text ++ line_text spelled (Line.Listed (SplitLine.Chain c n m)))
     chain_put c n m text start count all h fields = record {
       stand = after_line h.stand (SplitLine.Chain c n m);
       leads = next_put h.stand text (SplitLine.Chain c n m) h.leads (record {
         full = h.full;
         points = contour.points;
-        next = ap (slice_get at.contours) h.begun ∙ at.there ∙ ap Some (let e : contour ≡ record { start = c; points = contour.points } = λ i. record { start = sym start i; points = contour.points } in e);
+        next = ap (slice_get at.contours) h.begun ∙ at.there
+            ∙ ap Some (let e : contour ≡ record { start = c; points = contour.points } = λ i. record { start = sym start i; points = contour.points } in e);
         count = count;
         some = (let s = are.some in omega arith);
         few = (let s = are.few in omega arith);
@@ -90,7 +99,8 @@ module _ (X : Picture) (k : ℕ) (contour : Contour) (at : IsContourAt X k conto
       piece_line = SplitLine.Piece p.first p.last p.axis p.line
 
       -- the piece, whose line tells that it is the last exactly where it is
-      pub piece_put : spelled.IsLine (Line.Listed piece_line) → LeadsTo X (State.Listing (after_line h.stand piece_line)) (text ++ line_text spelled (Line.Listed piece_line))
+      pub piece_put : spelled.IsLine (Line.Listed piece_line)
+          → LeadsTo X (State.Listing (after_line h.stand piece_line)) (text ++ line_text spelled (Line.Listed piece_line))
       piece_put fields =
           let is = are.piece j l in
           let here = sym (open_is h.stand h.begun) in
@@ -103,7 +113,10 @@ module _ (X : Picture) (k : ℕ) (contour : Contour) (at : IsContourAt X k conto
               begins = are.goes_on j l ∙ sym h.next;
               rises = is.rises;
               within = subst (λ (c : Contour). p.last < length c.points) here is.within;
-              ends = (λ e. ends_last (omega arith) ∙ ap (λ (c : Contour). length c.points) here, λ e. last_ends (e ∙ ap (λ (c : Contour). length c.points) (sym here)));
+              ends = (
+                λ e. ends_last (omega arith) ∙ ap (λ (c : Contour). length c.points) here,
+                λ e. last_ends (e ∙ ap (λ (c : Contour). length c.points) (sym here)),
+              );
             };
             axis = is.axis;
             naive = subst (λ (c : Contour). IsNaiveFor p.axis (arc c.points p.first p.last) p.line) here is.naive;
@@ -117,7 +130,8 @@ module _ (X : Picture) (k : ℕ) (contour : Contour) (at : IsContourAt X k conto
           last_ends e = elim (dec_lt (j + 1) (length pieces)) [
             | no n ↦ (let given = h.given in let declared = h.declared in omega arith)
             | yes m ↦ absurd (
-                let begins : (piece_at pieces (j + 1)).first ≡ p.last + 1 = are.goes_on (j + 1) m ∙ ap (place_after pieces) (let q : j + 1 ≡ suc j = omega arith in q) in
+                let begins : (piece_at pieces (j + 1)).first ≡ p.last + 1 = are.goes_on (j + 1) m
+                ∙ ap (place_after pieces) (let q : j + 1 ≡ suc j = omega arith in q) in
                 let next = are.piece (j + 1) m in
                 let rises = next.rises in
                 let within = next.within in
@@ -125,7 +139,8 @@ module _ (X : Picture) (k : ℕ) (contour : Contour) (at : IsContourAt X k conto
           ]
 
       -- so the last piece ends the contour
-      pub last_put : j + 1 ≡ length pieces → spelled.IsLine (Line.Listed piece_line) → HasPieces X k pieces (j + 1) (text ++ line_text spelled (Line.Listed piece_line))
+      pub last_put : j + 1 ≡ length pieces → spelled.IsLine (Line.Listed piece_line)
+          → HasPieces X k pieces (j + 1) (text ++ line_text spelled (Line.Listed piece_line))
       last_put e fields = record {
         stand = after_line h.stand piece_line;
         leads = piece_put fields;
@@ -145,7 +160,8 @@ module _ (X : Picture) (k : ℕ) (contour : Contour) (at : IsContourAt X k conto
         y_line = SplitLine.Gap 1 p.y
 
         pub gaps_put : spelled.IsLine (Line.Listed piece_line) → spelled.IsLine (Line.Listed x_line) → spelled.IsLine (Line.Listed y_line)
-            → HasPieces X k pieces (j + 1) (((text ++ line_text spelled (Line.Listed piece_line)) ++ line_text spelled (Line.Listed x_line)) ++ line_text spelled (Line.Listed y_line))
+            → HasPieces X k pieces (j + 1)
+            (((text ++ line_text spelled (Line.Listed piece_line)) ++ line_text spelled (Line.Listed x_line)) ++ line_text spelled (Line.Listed y_line))
         gaps_put fields x y =
             let w = after_line h.stand piece_line in
             let refused = are.refused j more in

@@ -9,9 +9,8 @@ ghost use Rattle.shape_line.specs.SegmentTerms.{points_of};
 ghost use Rattle.shape_pieces.specs.Steps.{piece_of, IsPieceFrom};
 
 use crate::entry::Entry;
-use shape_cover::{Gap, Grown, Stretch, forward};
 use shape_crack::Contour;
-use shape_line::ahead;
+use shape_line::{Gap, Grown, Stretch, ahead, forward};
 
 // The place where a piece ends: that of the segment, or the last one of the contour.
 fn end_of(place: u32, n: u32) -> u32

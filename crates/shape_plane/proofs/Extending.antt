@@ -14,12 +14,12 @@ use Rattle.shape_terms.specs.FramedBox.{IsWithin}
 use Rattle.shape_terms.specs.Refutations.{Refutation as Weights}
 use Rattle.shape_refute.specs.declared.refutation.Refutation.{Refutation}
 use Rattle.shape_refute.specs.Weights.{refutation_of}
-use Rattle.shape_slope.specs.declared.known.Mark.{Mark}
-use Rattle.shape_slope.specs.declared.pair.Pair.{Pair}
-use Rattle.shape_slope.specs.declared.row.Row.{Row}
-use Rattle.shape_slope.specs.Knowing.{IsMark}
-use Rattle.shape_slope.specs.Pairs.{AreInside, IsPair}
-use Rattle.shape_slope.specs.Systems.{bounding_rows}
+use Rattle.shape_plane.specs.declared.known.Mark.{Mark}
+use Rattle.shape_plane.specs.declared.pair.Pair.{Pair}
+use Rattle.shape_plane.specs.declared.row.Row.{Row}
+use Rattle.shape_plane.specs.Knowing.{IsMark}
+use Rattle.shape_plane.specs.Pairs.{AreInside, IsPair}
+use Rattle.shape_plane.specs.Systems.{bounding_rows}
 use Rattle.shape_plane.specs.declared.held.Held.{Held}
 use Rattle.shape_plane.specs.declared.verdict.Decided.{Decided}
 use Rattle.shape_plane.specs.declared.verdict.Decided.TheVariants.{Flat, Refused}
@@ -43,8 +43,10 @@ module _ {Q : Type 0} (old new : List Q) (p : Q) (e : new ≡ old ++ p ∷ []) w
   pub pair_pushed : (pair : Pair) → IsPair (length old + 1) pair → IsPair (length new) pair
   pair_pushed pair h = subst (λ (n : ℕ). IsPair n pair) (sym counted) h
 
-  pub inside_pushed : (f : Q → Point) (greatest : ℤ) → AreInside greatest (map f old) → IsWithin (pos 0) (greatest -ℤ pos 1) (f p) → AreInside greatest (map f new)
-  inside_pushed f greatest h w = subst (AreInside greatest) (sym (ap (map f) e ∙ one_more f old p)) (All-push (IsWithin (pos 0) (greatest -ℤ pos 1)) (map f old) (f p) h w)
+  pub inside_pushed : (f : Q → Point) (greatest : ℤ) → AreInside greatest (map f old) → IsWithin (pos 0) (greatest -ℤ pos 1) (f p)
+      → AreInside greatest (map f new)
+  inside_pushed f greatest h w = subst (AreInside greatest) (sym (ap (map f) e ∙ one_more f old p))
+      (All-push (IsWithin (pos 0) (greatest -ℤ pos 1)) (map f old) (f p) h w)
 
 -- the rows of no pair
 pub rows_none : (n t : ℕ) (points : List Point) (rows : List Row) → rows ≡ bounding_rows t → AreRowsOf n t points rows
@@ -52,13 +54,17 @@ rows_none n t points rows e = record { pairs = []; places = λ k d l. absurd (om
 
 -- ---- what is decided of it
 
-pub flat_extended : {Q : Type 0} (f : Q → Point) (d t : ℕ) (old mid new : List Q) (p : Q) (v : Decided) (h : Held) → new ≡ old ++ p ∷ [] → mid ≡ new → v ≡ Flat h → IsDecided d t (map f mid) v → (new ≡ old ++ p ∷ []) × IsKept d t (map f new) h
+pub flat_extended : {Q : Type 0} (f : Q → Point) (d t : ℕ) (old mid new : List Q) (p : Q) (v : Decided) (h : Held) → new ≡ old ++ p ∷ [] → mid ≡ new
+    → v ≡ Flat h → IsDecided d t (map f mid) v → (new ≡ old ++ p ∷ []) × IsKept d t (map f new) h
 flat_extended f d t old mid new p v h e m i k = (e, subst (λ (l : List Point). IsKept d t l h) (ap (map f) m) (subst (IsDecided d t (map f mid)) i k))
 
-pub refused_extended : {Q : Type 0} (f : Q → Point) (d t : ℕ) (old mid new : List Q) (p : Q) (v : Decided) (why : Refutation) → new ≡ old → mid ≡ old ++ p ∷ [] → v ≡ Refused why → IsDecided d t (map f mid) v → (new ≡ old) × IsRefuted d t (map f (old ++ p ∷ [])) (refutation_of why)
-refused_extended f d t old mid new p v why e m i k = (e, subst (λ (l : List Point). IsRefuted d t l (refutation_of why)) (ap (map f) m) (subst (IsDecided d t (map f mid)) i k))
+pub refused_extended : {Q : Type 0} (f : Q → Point) (d t : ℕ) (old mid new : List Q) (p : Q) (v : Decided) (why : Refutation) → new ≡ old → mid ≡ old ++ p ∷ []
+    → v ≡ Refused why → IsDecided d t (map f mid) v → (new ≡ old) × IsRefuted d t (map f (old ++ p ∷ [])) (refutation_of why)
+refused_extended f d t old mid new p v why e m i k =
+    (e, subst (λ (l : List Point). IsRefuted d t l (refutation_of why)) (ap (map f) m) (subst (IsDecided d t (map f mid)) i k))
 
-pub err_extended : {Q E : Type 0} (f : Q → Point) (d t : ℕ) (old new : List Q) (p : Q) (r : Result Decided E) → IsErr r → new ≡ old → HasExtended f d t old new p r
+pub err_extended : {Q E : Type 0} (f : Q → Point) (d t : ℕ) (old new : List Q) (p : Q) (r : Result Decided E) → IsErr r → new ≡ old
+    → HasExtended f d t old new p r
 err_extended f d t old new p (Ok v) i h = absurd (false≢true i)
 err_extended f d t old new p (Err e) i h = h
 
@@ -74,10 +80,12 @@ taken_back old mid new p n m e c = e ∙ ap (take n) m ∙ ap (λ (k : ℕ). tak
 pub rows_front : (n t : ℕ) (points : List Point) (mark : Mark) (old new : List Row) → IsMark mark old → HasGrown n t points old new → take mark.count new ≡ old
 rows_front n t points mark old new m g = ap (take mark.count) g.same ∙ ap (λ (k : ℕ). take k (old ++ g.more)) m.count ∙ take-append_seam old g.more
 
-pub marked_again : (n t : ℕ) (points : List Point) (mark : Mark) (old new : List Row) → IsMark mark old → HasGrown n t points old new → IsMark mark (take mark.count new)
+pub marked_again : (n t : ℕ) (points : List Point) (mark : Mark) (old new : List Row) → IsMark mark old → HasGrown n t points old new
+    → IsMark mark (take mark.count new)
 marked_again n t points mark old new m g = subst (IsMark mark) (sym (rows_front n t points mark old new m g)) m
 
-pub rows_same : {Q : Type 0} (f : Q → Point) (t : ℕ) (old new : List Q) (rows rows' : List Row) → new ≡ old → rows' ≡ rows → AreRowsOf (length old) t (map f old) rows → AreRowsOf (length new) t (map f new) rows'
+pub rows_same : {Q : Type 0} (f : Q → Point) (t : ℕ) (old new : List Q) (rows rows' : List Row) → new ≡ old → rows' ≡ rows
+    → AreRowsOf (length old) t (map f old) rows → AreRowsOf (length new) t (map f new) rows'
 rows_same f t old new rows rows' e r h =
     subst (AreRowsOf (length new) t (map f new)) (sym r)
     (subst (λ (n : ℕ). AreRowsOf n t (map f new) rows) (ap length (sym e)) (subst (λ (l : List Point). AreRowsOf (length old) t l rows) (ap (map f) (sym e)) h))
@@ -101,7 +109,13 @@ module _ {Q : Type 0} (f : Q → Point) (axis : ℕ) (old : List Q) (v : Grown) 
   same_shown new n = ap (shown f axis) n ∙ e
 
   pub added_flat : (new : List Q) (p : Q) → new ≡ old ++ p ∷ [] → shown f axis new ≡ record { axis = v.axis; points = v.points ++ f p ∷ [] }
-  added_flat new p n = subst (λ (g : Grown). shown f axis new ≡ record { axis = g.axis; points = g.points ++ f p ∷ [] }) e (ap (λ (l : List Point). record { axis = axis; points = l }) (ap (map f) n ∙ one_more f old p))
+  added_flat new p n = subst (λ (g : Grown). shown f axis new ≡ record { axis = g.axis; points = g.points ++ f p ∷ [] }) e
+      (ap (λ (l : List Point). record { axis = axis; points = l }) (ap (map f) n ∙ one_more f old p))
 
-  pub added_refused : (d : ℕ) (new : List Q) (p : Q) (why : Weights) → (new ≡ old) × IsRefuted d axis (map f (old ++ p ∷ [])) why → (shown f axis new ≡ v) × IsRefuted d v.axis (v.points ++ f p ∷ []) why
-  added_refused d new p why h = (same_shown new h.0, subst (λ (g : Grown). IsRefuted d g.axis (g.points ++ f p ∷ []) why) e (subst (λ (l : List Point). IsRefuted d axis l why) (one_more f old p) h.1))
+  pub added_refused : (d : ℕ) (new : List Q) (p : Q) (why : Weights) → (new ≡ old) × IsRefuted d axis (map f (old ++ p ∷ [])) why
+      → (shown f axis new ≡ v) × IsRefuted d v.axis (v.points ++ f p ∷ []) why
+  added_refused d new p why h = (
+    same_shown new h.0,
+    subst (λ (g : Grown). IsRefuted d g.axis (g.points ++ f p ∷ []) why) e
+        (subst (λ (l : List Point). IsRefuted d axis l why) (one_more f old p) h.1),
+  )

@@ -1,6 +1,7 @@
 -- The growth of a patch, neighbour by neighbour and point by point.
 -- The loops themselves stand elsewhere.
-use Rattle.std.proofs.Common.{◌≡◌, ℕ, zero, suc, ◌+◌, ◌*◌, ◌^◌, ◌%◌, ◌<◌, ◌≤◌, ◌⊎◌, inl, inr, false, List, [], ◌∷◌, ◌++◌, length, refl, ap, sym, subst, ◌∙◌, arith, w32}
+use Rattle.std.proofs.Common.{◌≡◌, ℕ, zero, suc, ◌+◌, ◌*◌, ◌^◌, ◌%◌, ◌<◌, ◌≤◌, ◌⊎◌, inl, inr, false, List, [], ◌∷◌, ◌++◌, length, refl, ap, sym, subst, ◌∙◌}
+use Rattle.std.proofs.Common.{arith, w32}
 use Rattle.std.specs.Prelude.{IsTrue, Contains, AllPairs, slice_get, Some}
 use Rattle.std.specs.Int.{bit_at, bit_not}
 use Rattle.std.specs.Int.Bits.{bit_and}
@@ -20,7 +21,8 @@ use Rattle.shape_plane.proofs.Rests.{rest_keeps, rest_only}
 use Rattle.shape_plane.proofs.Spreading.{later_more, cleared, at_other, in_sides, got, same_or}
 
 -- no neighbour was tried yet
-pub round_first : (d n : ℕ) (p : Point) (rest : ℕ) (g : Grown) (left tried : Picture) (refused : List Refusal) → left.sides ≡ tried.sides → AreCandidates n left p rest → IsRound d n p rest g g left tried left tried refused refused
+pub round_first : (d n : ℕ) (p : Point) (rest : ℕ) (g : Grown) (left tried : Picture) (refused : List Refusal) → left.sides ≡ tried.sides
+    → AreCandidates n left p rest → IsRound d n p rest g g left tried left tried refused refused
 round_first d n p rest g left tried refused e c = record {
   axis = refl;
   sides = e;
@@ -31,10 +33,13 @@ round_first d n p rest g left tried refused e c = record {
 }
 
 -- the least number of the set was tried
-pub round_more : (d n : ℕ) (p : Point) (rest : ℕ) (old mid new : Grown) (left tried left' tried' left'' tried'' : Picture) (refused refused' refused'' : List Refusal)
+pub round_more : (d n : ℕ) (p : Point) (rest : ℕ) (old mid new : Grown) (left tried left' tried' left'' tried'' : Picture)
+    (refused refused' refused'' : List Refusal)
     → rest < 2 ^ 32 → 0 < rest → IsRound d n p rest old mid left tried left' tried' refused refused' → new.axis ≡ mid.axis → left''.sides ≡ tried''.sides
-    → IsLater (spread_of mid.points left' tried' refused') (spread_of new.points left'' tried'' refused'') → IsSettled (spread_of new.points left'' tried'' refused'') (near_point p (count_trailing_zeros 32 rest))
-    → ((first : Picture) → IsSpreading d mid.axis first (spread_of mid.points left' tried' refused') → IsSpreading d mid.axis first (spread_of new.points left'' tried'' refused''))
+    → IsLater (spread_of mid.points left' tried' refused') (spread_of new.points left'' tried'' refused'')
+    → IsSettled (spread_of new.points left'' tried'' refused'') (near_point p (count_trailing_zeros 32 rest))
+    → ((first : Picture) → IsSpreading d mid.axis first (spread_of mid.points left' tried' refused')
+    → IsSpreading d mid.axis first (spread_of new.points left'' tried'' refused''))
     → IsRound d n p (bit_and rest (bit_not w32 (1 * 2 ^ count_trailing_zeros 32 rest % 2 ^ 32))) old new left tried left'' tried'' refused refused''
 round_more d n p rest old mid new left tried left' tried' left'' tried'' refused refused' refused'' small more h e s l settled spreads = record {
   axis = e ∙ h.axis;
@@ -45,20 +50,24 @@ round_more d n p rest old mid new left tried left' tried' left'' tried'' refused
     | yes q ↦ inr (subst (λ (j : ℕ). IsSettled (spread_of new.points left'' tried'' refused'') (near_point p j)) (sym q) settled)
     | no q ↦ still m q (h.settled m k)
   ];
-  spreads = λ first a. subst (λ (t : ℕ). IsSpreading d t first (spread_of new.points left'' tried'' refused'')) h.axis (spreads first (subst (λ (t : ℕ). IsSpreading d t first (spread_of mid.points left' tried' refused')) (sym h.axis) (h.spreads first a)));
+  spreads = λ first a. subst (λ (t : ℕ). IsSpreading d t first (spread_of new.points left'' tried'' refused'')) h.axis
+      (spreads first (subst (λ (t : ℕ). IsSpreading d t first (spread_of mid.points left' tried' refused')) (sym h.axis) (h.spreads first a)));
 }
   where
     still : (m : ℕ) → (m ≡ count_trailing_zeros 32 rest → ⊥) → In rest m ⊎ IsSettled (spread_of mid.points left' tried' refused') (near_point p m)
-        → In (bit_and rest (bit_not w32 (1 * 2 ^ count_trailing_zeros 32 rest % 2 ^ 32))) m ⊎ IsSettled (spread_of new.points left'' tried'' refused'') (near_point p m)
+        → In (bit_and rest (bit_not w32 (1 * 2 ^ count_trailing_zeros 32 rest % 2 ^ 32))) m
+        ⊎ IsSettled (spread_of new.points left'' tried'' refused'') (near_point p m)
     still m q (inl i) = inl (rest_keeps rest small more m i q)
     still m q (inr a) = inr (l.settled (near_point p m) a)
 
 -- the set is empty
-pub round_last : (d n : ℕ) (p : Point) (rest : ℕ) (old new : Grown) (left tried left' tried' : Picture) (refused refused' : List Refusal) → IsRound d n p rest old new left tried left' tried' refused refused' → rest ≡ 0
+pub round_last : (d n : ℕ) (p : Point) (rest : ℕ) (old new : Grown) (left tried left' tried' : Picture) (refused refused' : List Refusal)
+    → IsRound d n p rest old new left tried left' tried' refused refused' → rest ≡ 0
     → (m : ℕ) → m < n → IsSettled (spread_of new.points left' tried' refused') (near_point p m)
 round_last d n p rest old new left tried left' tried' refused refused' h z m l = by_part (h.settled m l)
   where
-    by_part : In rest m ⊎ IsSettled (spread_of new.points left' tried' refused') (near_point p m) → IsSettled (spread_of new.points left' tried' refused') (near_point p m)
+    by_part : In rest m ⊎ IsSettled (spread_of new.points left' tried' refused') (near_point p m)
+        → IsSettled (spread_of new.points left' tried' refused') (near_point p m)
     by_part (inl i) = absurd (let a = ap (λ (x : ℕ). bit_at x m) z ∙ bit_at-zero m in omega arith)
     by_part (inr a) = a
 
@@ -81,7 +90,8 @@ got_length (x ∷ xs) zero p e = omega arith
 got_length (x ∷ xs) (suc k) p e = let h = got_length xs k p e in omega (arith, h)
 
 -- one point alone, which is no longer left
-pub going_first : (d n t : ℕ) (first tried : Picture) (p : Point) (g : Grown) (left : Picture) → IsPicture d first → IsTrue (at first p) → g.axis ≡ t → g.points ≡ p ∷ [] → left ≡ with_value first p false → tried.sides ≡ first.sides → ((q : Point) → IsTrue (at tried q) → ⊥)
+pub going_first : (d n t : ℕ) (first tried : Picture) (p : Point) (g : Grown) (left : Picture) → IsPicture d first → IsTrue (at first p) → g.axis ≡ t
+    → g.points ≡ p ∷ [] → left ≡ with_value first p false → tried.sides ≡ first.sides → ((q : Point) → IsTrue (at tried q) → ⊥)
     → IsGoing d n t first p 0 g left tried []
 going_first d n t first tried p g left pic l ea ep el es none = record {
   axis = ea;
@@ -89,7 +99,8 @@ going_first d n t first tried p g left pic l ea ep el es none = record {
   spreading = record {
     left_sides = ap (λ (L : Picture). L.sides) el;
     tried_sides = es;
-    left = λ q a. (let c = cleared d first p q pic (in_sides first p l) (subst (λ (L : Picture). IsTrue (at L q)) el a) in (c.0, λ m. c.1 (alone q (subst (λ (k : List Point). Contains k q) ep m))));
+    left = λ q a. (let c = cleared d first p q pic (in_sides first p l) (subst (λ (L : Picture). IsTrue (at L q)) el a) in
+        (c.0, λ m. c.1 (alone q (subst (λ (k : List Point). Contains k q) ep m))));
     rest = λ q a. stays q a (same_or first p q (in_sides first p l) (in_sides first q a));
     taken = λ q m. subst (λ (z : Point). IsTrue (at first z)) (sym (alone q (subst (λ (k : List Point). Contains k q) ep m))) l;
     once = subst (AllPairs (λ a b. a ≡ b → ⊥)) (sym ep) (λ i j e a b. absurd (omega arith));
@@ -110,26 +121,38 @@ going_first d n t first tried p g left pic l ea ep el es none = record {
     alone q (suc k, h, e) = absurd (omega arith)
 
 -- the neighbours of one point more were tried
-pub going_more : (d n t : ℕ) (first : Picture) (p : Point) (k : ℕ) (old new : Grown) (q : Point) (left tried left' tried' : Picture) (refused refused' : List Refusal)
+pub going_more : (d n t : ℕ) (first : Picture) (p : Point) (k : ℕ) (old new : Grown) (q : Point) (left tried left' tried' : Picture)
+    (refused refused' : List Refusal)
     → IsGoing d n t first p k old left tried refused → slice_get old.points k ≡ Some q → new.axis ≡ old.axis
     → IsLater (spread_of old.points left tried refused) (spread_of new.points left' tried' refused')
     → ((m : ℕ) → m < n → IsSettled (spread_of new.points left' tried' refused') (near_point q m))
-    → ((x : Picture) → IsSpreading d old.axis x (spread_of old.points left tried refused) → IsSpreading d old.axis x (spread_of new.points left' tried' refused'))
+    → ((x : Picture) → IsSpreading d old.axis x (spread_of old.points left tried refused)
+    → IsSpreading d old.axis x (spread_of new.points left' tried' refused'))
     → IsGoing d n t first p (k + 1) new left' tried' refused'
 going_more d n t first p k old new q left tried left' tried' refused refused' h e ea l settled spreads = record {
   axis = ea ∙ h.axis;
   start = subst (λ (z : List Point). slice_get z 0 ≡ Some p) (sym l.points) (get_front old.points l.more 0 p h.start);
-  spreading = subst (λ (u : ℕ). IsSpreading d u first (spread_of new.points left' tried' refused')) h.axis (spreads first (subst (λ (u : ℕ). IsSpreading d u first (spread_of old.points left tried refused)) (sym h.axis) h.spreading));
+  spreading = subst (λ (u : ℕ). IsSpreading d u first (spread_of new.points left' tried' refused')) h.axis
+      (spreads first (subst (λ (u : ℕ). IsSpreading d u first (spread_of old.points left tried refused)) (sym h.axis) h.spreading));
   settled = λ j r b f m c. elim (ℕ_discrete j k) [
-    | yes z ↦ (let g : r ≡ q = get_back old.points l.more k q r e (subst (λ (u : ℕ). slice_get (old.points ++ l.more) u ≡ Some r) z (subst (λ (u : List Point). slice_get u j ≡ Some r) l.points f)) in subst (λ (u : Point). IsSettled (spread_of new.points left' tried' refused') (near_point u m)) (sym g) (settled m c))
-    | no z ↦ (let s = got_length old.points k q e in l.settled (near_point r m) (h.settled j r (omega (arith, b, z)) (get_within old.points l.more j r (omega (arith, b, s)) (subst (λ (u : List Point). slice_get u j ≡ Some r) l.points f)) m c))
+    | yes z ↦ (let g : r ≡ q =
+        get_back old.points l.more k q r e
+        (subst (λ (u : ℕ). slice_get (old.points ++ l.more) u ≡ Some r) z (subst (λ (u : List Point). slice_get u j ≡ Some r) l.points f)) in
+        subst (λ (u : Point). IsSettled (spread_of new.points left' tried' refused') (near_point u m)) (sym g) (settled m c))
+    | no z ↦ (let s = got_length old.points k q e in
+        l.settled (near_point r m)
+        (h.settled j r (omega (arith, b, z))
+        (get_within old.points l.more j r (omega (arith, b, s)) (subst (λ (u : List Point). slice_get u j ≡ Some r) l.points f)) m c))
   ];
 }
 
-pub going_less : (d n t : ℕ) (first : Picture) (p : Point) (k m : ℕ) (g : Grown) (left tried : Picture) (refused : List Refusal) → m ≤ k → IsGoing d n t first p k g left tried refused → IsGoing d n t first p m g left tried refused
-going_less d n t first p k m g left tried refused l h = record { axis = h.axis; start = h.start; spreading = h.spreading; settled = λ j r b f i c. h.settled j r (omega (arith, b, l)) f i c }
+pub going_less : (d n t : ℕ) (first : Picture) (p : Point) (k m : ℕ) (g : Grown) (left tried : Picture) (refused : List Refusal) → m ≤ k
+    → IsGoing d n t first p k g left tried refused → IsGoing d n t first p m g left tried refused
+going_less d n t first p k m g left tried refused l h =
+    record { axis = h.axis; start = h.start; spreading = h.spreading; settled = λ j r b f i c. h.settled j r (omega (arith, b, l)) f i c }
 
 -- a point of the patch lies in the box
-pub going_in_box : (d n t : ℕ) (first : Picture) (p : Point) (k : ℕ) (g : Grown) (left tried : Picture) (refused : List Refusal) (j : ℕ) (q : Point) → IsGoing d n t first p k g left tried refused → slice_get g.points j ≡ Some q → IsTrue (in_box left.sides q)
+pub going_in_box : (d n t : ℕ) (first : Picture) (p : Point) (k : ℕ) (g : Grown) (left tried : Picture) (refused : List Refusal) (j : ℕ) (q : Point)
+    → IsGoing d n t first p k g left tried refused → slice_get g.points j ≡ Some q → IsTrue (in_box left.sides q)
 going_in_box d n t first p k g left tried refused j q h e =
     subst (λ (s : List ℕ). IsTrue (in_box s q)) (sym h.spreading.left_sides) (in_sides first q (h.spreading.taken q (got g.points j q e)))

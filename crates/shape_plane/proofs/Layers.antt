@@ -1,10 +1,12 @@
 -- Points of a box one step apart on an axis, by their raster numbers.
 -- Laws over lists of sides and numbers alone.
-use Rattle.std.proofs.Common.{◌≡◌, ℕ, zero, suc, ◌+◌, ◌*◌, ◌/◌, ◌%◌, ◌<◌, ◌≤◌, Bool, true, false, List, [], ◌∷◌, length, refl, ap, sym, subst, ◌∙◌, arith, mul_comm, zero-add}
+use Rattle.std.proofs.Common.{◌≡◌, ℕ, zero, suc, ◌+◌, ◌*◌, ◌/◌, ◌%◌, ◌<◌, ◌≤◌, Bool, true, false, List, [], ◌∷◌, length, refl, ap, sym, subst, ◌∙◌, arith}
+use Rattle.std.proofs.Common.{mul_comm, zero-add}
 use Rattle.std.specs.Prelude.{nat_abs, ℤ, pos, negsuc, ◌+ℤ◌, IsTrue, slice_index_or}
 use Rattle.std.proofs.lemmas.Int.{ints}
 use Rattle.std.proofs.lemmas.Nat.{mul-le, div_below}
-use Rattle.std.proofs.Math.Nat.{add-mul-mod_self_left, add-mul-div_left, mod-eq_of_lt, div-eq_of_lt, div-one, div-div-eq-div-mul, div-lt_iff_lt-mul, mul_assoc, mul-div-le}
+use Rattle.std.proofs.Math.Nat.{add-mul-mod_self_left, add-mul-div_left, mod-eq_of_lt, div-eq_of_lt, div-one, div-div-eq-div-mul, div-lt_iff_lt-mul, mul_assoc}
+use Rattle.std.proofs.Math.Nat.{mul-div-le}
 use native.Mathlib.Decide.{dec_lt}
 use Rattle.std.proofs.lemmas.List.{length-map}
 use Rattle.shape_terms.specs.Points.{Point, coordinate, sides_of, in_box, box_count, raster_point}
@@ -52,7 +54,8 @@ still a = omega (arith, ints)
 cons : (x y : ℤ) (p q : Point) → x ≡ y → p ≡ q → x ∷ p ≡ y ∷ q
 cons x y p q e f = λ i. e i ∷ f i
 
-next_on : (sides : List ℕ) (k i : ℕ) → k < length sides → i < box_count sides → i / gap_of sides k % slice_index_or sides k 0 + 1 < slice_index_or sides k 0 → IsNext sides k i (i + gap_of sides k)
+next_on : (sides : List ℕ) (k i : ℕ) → k < length sides → i < box_count sides → i / gap_of sides k % slice_index_or sides k 0 + 1 < slice_index_or sides k 0
+    → IsNext sides k i (i + gap_of sides k)
 next_on [] k i l b h = absurd (omega arith)
 next_on (n ∷ sides) zero i l b h =
     let e : i % n + 1 < n = subst (λ (x : ℕ). x % n + 1 < n) (div-one i) h in
@@ -61,21 +64,27 @@ next_on (n ∷ sides) zero i l b h =
     let m : i / n < box_count sides = quotient_below n (box_count sides) i (omega (arith, e)) b in
     record {
       bounded = below_product n (box_count sides) (i + 1) (omega (arith, e)) (rw q m);
-      on = cons (pos ((i + 1) % n)) (pos (i % n) +ℤ pos 1) (raster_point sides ((i + 1) / n)) (moved (raster_point sides (i / n)) []) (ap pos r ∙ up_one (i % n)) (ap (raster_point sides) q ∙ sym (unmoved (raster_point sides (i / n))));
-      back = cons (pos (i % n)) (pos ((i + 1) % n) +ℤ negsuc 0) (raster_point sides (i / n)) (moved (raster_point sides ((i + 1) / n)) []) (down_one (i % n) ∙ ap (λ (x : ℕ). pos x +ℤ negsuc 0) (sym r)) (ap (raster_point sides) (sym q) ∙ sym (unmoved (raster_point sides ((i + 1) / n))));
+      on = cons (pos ((i + 1) % n)) (pos (i % n) +ℤ pos 1) (raster_point sides ((i + 1) / n)) (moved (raster_point sides (i / n)) [])
+          (ap pos r ∙ up_one (i % n)) (ap (raster_point sides) q ∙ sym (unmoved (raster_point sides (i / n))));
+      back = cons (pos (i % n)) (pos ((i + 1) % n) +ℤ negsuc 0) (raster_point sides (i / n)) (moved (raster_point sides ((i + 1) / n)) [])
+          (down_one (i % n) ∙ ap (λ (x : ℕ). pos x +ℤ negsuc 0) (sym r)) (ap (raster_point sides) (sym q) ∙ sym (unmoved (raster_point sides ((i + 1) / n))));
     }
 next_on (n ∷ sides) (suc k) i l b h =
     let s : 0 < n = some_side n (box_count sides) i b in
     let g = gap_of sides k in
     let m : i / n < box_count sides = quotient_below n (box_count sides) i s b in
-    let t : i / n / g % slice_index_or sides k 0 + 1 < slice_index_or sides k 0 = subst (λ (x : ℕ). x % slice_index_or sides k 0 + 1 < slice_index_or sides k 0) (sym (div-div-eq-div-mul i n g)) h in
+    let t : i / n / g % slice_index_or sides k 0 + 1 < slice_index_or sides k 0 = subst (λ (x : ℕ). x % slice_index_or sides k 0 + 1 < slice_index_or sides k 0)
+    (sym (div-div-eq-div-mul i n g)) h in
     let w = next_on sides k (i / n) (omega arith) m t in
     let r : (i + n * g) % n ≡ i % n = add-mul-mod_self_left i n g in
     let q : (i + n * g) / n ≡ i / n + g = add-mul-div_left i g s in
     record {
       bounded = below_product n (box_count sides) (i + n * g) s (rw q w.bounded);
-      on = cons (pos ((i + n * g) % n)) (pos (i % n) +ℤ pos 0) (raster_point sides ((i + n * g) / n)) (moved (raster_point sides (i / n)) (along k (pos 1))) (ap pos r ∙ still (i % n)) (ap (raster_point sides) q ∙ w.on);
-      back = cons (pos (i % n)) (pos ((i + n * g) % n) +ℤ pos 0) (raster_point sides (i / n)) (moved (raster_point sides ((i + n * g) / n)) (along k (negsuc 0))) (still (i % n) ∙ ap (λ (x : ℕ). pos x +ℤ pos 0) (sym r)) (w.back ∙ ap (λ (x : ℕ). moved (raster_point sides x) (along k (negsuc 0))) (sym q));
+      on = cons (pos ((i + n * g) % n)) (pos (i % n) +ℤ pos 0) (raster_point sides ((i + n * g) / n)) (moved (raster_point sides (i / n)) (along k (pos 1)))
+          (ap pos r ∙ still (i % n)) (ap (raster_point sides) q ∙ w.on);
+      back = cons (pos (i % n)) (pos ((i + n * g) % n) +ℤ pos 0) (raster_point sides (i / n))
+          (moved (raster_point sides ((i + n * g) / n)) (along k (negsuc 0))) (still (i % n) ∙ ap (λ (x : ℕ). pos x +ℤ pos 0) (sym r))
+          (w.back ∙ ap (λ (x : ℕ). moved (raster_point sides x) (along k (negsuc 0))) (sym q));
     }
 
 -- ---- out of the box
@@ -88,7 +97,8 @@ true_or_false : (b : Bool) → b ≡ false → b ≡ true → ⊥
 true_or_false b e f = let z : false ≡ true = sym e ∙ f in cc
 
 -- the last point on the axis has no point one step on in the box
-last_out : (sides : List ℕ) (k i : ℕ) → k < length sides → i < box_count sides → slice_index_or sides k 0 ≤ i / gap_of sides k % slice_index_or sides k 0 + 1 → in_box sides (moved (raster_point sides i) (along k (pos 1))) ≡ false
+last_out : (sides : List ℕ) (k i : ℕ) → k < length sides → i < box_count sides → slice_index_or sides k 0 ≤ i / gap_of sides k % slice_index_or sides k 0 + 1
+    → in_box sides (moved (raster_point sides i) (along k (pos 1))) ≡ false
 last_out [] k i l b h = absurd (omega arith)
 last_out (n ∷ sides) zero i l b h = not_true _ (λ t.
     let e : n ≤ i % n + 1 = subst (λ (x : ℕ). n ≤ x % n + 1) (div-one i) h in
@@ -99,10 +109,13 @@ last_out (n ∷ sides) (suc k) i l b h = not_true _ (λ t.
     let s : 0 < n = some_side n (box_count sides) i b in
     let m : i / n < box_count sides = quotient_below n (box_count sides) i s b in
     let u = (in_box_first n sides (pos (i % n) +ℤ pos 0) (moved (raster_point sides (i / n)) (along k (pos 1))) t).2 in
-    true_or_false (in_box sides (moved (raster_point sides (i / n)) (along k (pos 1)))) (last_out sides k (i / n) (omega arith) m (subst (λ (x : ℕ). slice_index_or sides k 0 ≤ x % slice_index_or sides k 0 + 1) (sym (div-div-eq-div-mul i n (gap_of sides k))) h)) u)
+    true_or_false (in_box sides (moved (raster_point sides (i / n)) (along k (pos 1))))
+    (last_out sides k (i / n) (omega arith) m
+    (subst (λ (x : ℕ). slice_index_or sides k 0 ≤ x % slice_index_or sides k 0 + 1) (sym (div-div-eq-div-mul i n (gap_of sides k))) h)) u)
 
 -- and the first one has none one step back
-first_out : (sides : List ℕ) (k i : ℕ) → k < length sides → i < box_count sides → i / gap_of sides k % slice_index_or sides k 0 ≡ 0 → in_box sides (moved (raster_point sides i) (along k (negsuc 0))) ≡ false
+first_out : (sides : List ℕ) (k i : ℕ) → k < length sides → i < box_count sides → i / gap_of sides k % slice_index_or sides k 0 ≡ 0
+    → in_box sides (moved (raster_point sides i) (along k (negsuc 0))) ≡ false
 first_out [] k i l b h = absurd (omega arith)
 first_out (n ∷ sides) zero i l b h = not_true _ (λ t.
     let e : i % n ≡ 0 = subst (λ (x : ℕ). x % n ≡ 0) (div-one i) h in
@@ -113,7 +126,8 @@ first_out (n ∷ sides) (suc k) i l b h = not_true _ (λ t.
     let s : 0 < n = some_side n (box_count sides) i b in
     let m : i / n < box_count sides = quotient_below n (box_count sides) i s b in
     let u = (in_box_first n sides (pos (i % n) +ℤ pos 0) (moved (raster_point sides (i / n)) (along k (negsuc 0))) t).2 in
-    true_or_false (in_box sides (moved (raster_point sides (i / n)) (along k (negsuc 0)))) (first_out sides k (i / n) (omega arith) m (subst (λ (x : ℕ). x % slice_index_or sides k 0 ≡ 0) (sym (div-div-eq-div-mul i n (gap_of sides k))) h)) u)
+    true_or_false (in_box sides (moved (raster_point sides (i / n)) (along k (negsuc 0))))
+    (first_out sides k (i / n) (omega arith) m (subst (λ (x : ℕ). x % slice_index_or sides k 0 ≡ 0) (sym (div-div-eq-div-mul i n (gap_of sides k))) h)) u)
 
 -- ---- the numbers of a block, which has each coordinate of the axis
 
@@ -121,10 +135,12 @@ first_out (n ∷ sides) (suc k) i l b h = not_true _ (λ t.
 block_coordinate : (g s o y : ℕ) → 0 < g → y < g * s → (y + g * s * o) / g % s ≡ y / g
 block_coordinate g s o y p l =
     let e : y + g * s * o ≡ y + g * (s * o) = ap (λ (x : ℕ). y + x) (mul_assoc g s o) in
-    ap (λ (x : ℕ). x / g % s) e ∙ ap (λ (x : ℕ). x % s) (add-mul-div_left y (s * o) p) ∙ add-mul-mod_self_left (y / g) s o ∙ mod-eq_of_lt (quotient_below g s y p l)
+    ap (λ (x : ℕ). x / g % s) e ∙ ap (λ (x : ℕ). x % s) (add-mul-div_left y (s * o) p) ∙ add-mul-mod_self_left (y / g) s o
+    ∙ mod-eq_of_lt (quotient_below g s y p l)
 
 inner_place : (g s y : ℕ) → 0 < g → y + g < g * s → y / g + 1 < s
-inner_place g s y p l = let e : (y + g * 1) / g ≡ y / g + 1 = add-mul-div_left y 1 p in let a = quotient_below g s (y + g * 1) p (omega (arith, l)) in omega (arith, e, a)
+inner_place g s y p l = let e : (y + g * 1) / g ≡ y / g + 1 = add-mul-div_left y 1 p in let a = quotient_below g s (y + g * 1) p (omega (arith, l)) in
+    omega (arith, e, a)
 
 outer_place : (g s y : ℕ) → 0 < g → g * s ≤ y + g → s ≤ y / g + 1
 outer_place g s y p l = elim (dec_lt (y / g + 1) s) [
@@ -132,12 +148,15 @@ outer_place g s y p l = elim (dec_lt (y / g + 1) s) [
   | no b ↦ omega (arith, b)
 ]
 
-module _ (sides : List ℕ) (k : ℕ) (axis : k < length sides) (o y : ℕ) (below : y + gap_of sides k * slice_index_or sides k 0 * o < box_count sides) (some : 0 < gap_of sides k) (place : y < gap_of sides k * slice_index_or sides k 0) where
-  block_next : y + gap_of sides k < gap_of sides k * slice_index_or sides k 0 → IsNext sides k (y + gap_of sides k * slice_index_or sides k 0 * o) (y + gap_of sides k * slice_index_or sides k 0 * o + gap_of sides k)
+module _ (sides : List ℕ) (k : ℕ) (axis : k < length sides) (o y : ℕ) (below : y + gap_of sides k * slice_index_or sides k 0 * o < box_count sides)
+    (some : 0 < gap_of sides k) (place : y < gap_of sides k * slice_index_or sides k 0) where
+  block_next : y + gap_of sides k < gap_of sides k * slice_index_or sides k 0
+      → IsNext sides k (y + gap_of sides k * slice_index_or sides k 0 * o) (y + gap_of sides k * slice_index_or sides k 0 * o + gap_of sides k)
   block_next l = next_on sides k (y + gap_of sides k * slice_index_or sides k 0 * o) axis below
       (rw (block_coordinate (gap_of sides k) (slice_index_or sides k 0) o y some place) (inner_place (gap_of sides k) (slice_index_or sides k 0) y some l))
 
-  block_last : gap_of sides k * slice_index_or sides k 0 ≤ y + gap_of sides k → in_box sides (moved (raster_point sides (y + gap_of sides k * slice_index_or sides k 0 * o)) (along k (pos 1))) ≡ false
+  block_last : gap_of sides k * slice_index_or sides k 0 ≤ y + gap_of sides k
+      → in_box sides (moved (raster_point sides (y + gap_of sides k * slice_index_or sides k 0 * o)) (along k (pos 1))) ≡ false
   block_last l = last_out sides k (y + gap_of sides k * slice_index_or sides k 0 * o) axis below
       (rw (block_coordinate (gap_of sides k) (slice_index_or sides k 0) o y some place) (outer_place (gap_of sides k) (slice_index_or sides k 0) y some l))
 
@@ -165,7 +184,8 @@ some_other n m l = some_side m n 0 (let c = mul_comm n m in omega (arith, l, c))
 pub gap_some : (sides : List ℕ) (k : ℕ) → 0 < box_count sides → 0 < gap_of sides k
 gap_some [] k h = omega arith
 gap_some (n ∷ sides) zero h = omega arith
-gap_some (n ∷ sides) (suc k) h = let a = some_side n (box_count sides) 0 h in let b = gap_some sides k (some_other n (box_count sides) h) in mul-le 1 1 n (gap_of sides k) (omega (arith, a)) (omega (arith, b))
+gap_some (n ∷ sides) (suc k) h = let a = some_side n (box_count sides) 0 h in let b = gap_some sides k (some_other n (box_count sides) h) in
+    mul-le 1 1 n (gap_of sides k) (omega (arith, a)) (omega (arith, b))
 
 pub gap_most : (sides : List ℕ) (k : ℕ) → 0 < box_count sides → gap_of sides k ≤ box_count sides
 gap_most [] k h = omega arith
@@ -183,12 +203,14 @@ gap_least sides k h l =
     let e = gap_more sides k l in
     let p = gap_some sides (k + 1) h in
     let s = some_other (gap_of sides k) (slice_index_or sides k 0) (rw e p) in
-    let m : gap_of sides k * 1 ≤ gap_of sides k * slice_index_or sides k 0 = mul-le (gap_of sides k) 1 (gap_of sides k) (slice_index_or sides k 0) (omega arith) (omega (arith, s)) in
+    let m : gap_of sides k * 1 ≤ gap_of sides k * slice_index_or sides k 0 = mul-le (gap_of sides k) 1 (gap_of sides k) (slice_index_or sides k 0) (omega arith)
+    (omega (arith, s)) in
     omega (arith, e, m)
 
 -- ---- the same at the places of a block
 
-module _ (sides : List ℕ) (k o g b j : ℕ) (axis : k < length sides) (gap : g ≡ gap_of sides k) (block : b ≡ gap_of sides (k + 1)) (below : b * o + j < box_count sides) (place : j < b) where
+module _ (sides : List ℕ) (k o g b j : ℕ) (axis : k < length sides) (gap : g ≡ gap_of sides k) (block : b ≡ gap_of sides (k + 1))
+    (below : b * o + j < box_count sides) (place : j < b) where
   whole : gap_of sides k * slice_index_or sides k 0 ≡ b
   whole = gap_more sides k axis ∙ sym block
 

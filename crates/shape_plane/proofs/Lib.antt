@@ -1,3 +1,14 @@
+pub mod Together
+pub mod Tighter
+pub mod Narrowing
+pub mod Tightening
+pub mod Solving
+pub mod Gaps
+pub mod Weighed
+pub mod Certified
+pub mod Refuting
+pub mod Meeting
+pub mod Knowing
 pub mod Holding
 pub mod Deciding
 pub mod Adding

@@ -36,17 +36,20 @@ parted_none d t first = record {
     nothing q c = let l = c.1 in omega (arith, l)
 
 -- one patch more was taken
-pub parted_more : (d t : ℕ) (first : Picture) (found : List FoundPatch) (left left' : Picture) (x : FoundPatch) → IsParted d t first found left → IsNextPatch d t left left' x → IsParted d t first (found ++ x ∷ []) left'
+pub parted_more : (d t : ℕ) (first : Picture) (found : List FoundPatch) (left left' : Picture) (x : FoundPatch) → IsParted d t first found left
+    → IsNextPatch d t left left' x → IsParted d t first (found ++ x ∷ []) left'
 parted_more d t first found left left' x h n = record {
   sides = n.sides ∙ h.sides;
-  parting = subst (λ (z : List Patch). IsParting t (λ q. IsTrue (at first q)) z left') (sym (patches_more found x)) (parting_more t (λ q. IsTrue (at first q)) (patches_of found) left left' x.patch h.parting n.part);
+  parting = subst (λ (z : List Patch). IsParting t (λ q. IsTrue (at first q)) z left') (sym (patches_more found x))
+      (parting_more t (λ q. IsTrue (at first q)) (patches_of found) left left' x.patch h.parting n.part);
   refusing = refusing_more d t found left left' x h.refusing n.part n.refused;
 }
 
 -- fewer points are left after a patch than before
 pub fewer_left : (d t : ℕ) (left left' : Picture) (x : FoundPatch) → IsNextPatch d t left left' x → length (object_points left') < length (object_points left)
 fewer_left d t left left' x n = no_more (n.part.start ∷ object_points left') (object_points left)
-    (pairs-cons (λ p q. p ≢ q) n.part.start (object_points left') (All-each (λ q. n.part.start ≢ q) (object_points left') (λ q c e. out (subst (Contains (object_points left')) (sym e) c))) (objects_distinct left'))
+    (pairs-cons (λ p q. p ≢ q) n.part.start (object_points left')
+    (All-each (λ q. n.part.start ≢ q) (object_points left') (λ q c e. out (subst (Contains (object_points left')) (sym e) c))) (objects_distinct left'))
     (λ q c. object_there left q (there q (in_cases n.part.start (object_points left') q c)))
   where
     out : Contains (object_points left') n.part.start → ⊥
@@ -59,7 +62,8 @@ fewer_left d t left left' x n = no_more (n.part.start ∷ object_points left') (
 -- ---- the partition
 
 -- once no point is left, the refused points are among those of later patches
-refused_among : (d t : ℕ) (x : Patch) (left : Picture) (after : List Patch) (refused : List RefusedPoint) → IsEmpty left → AreRefusedOf d t x (IsLaterPoint left after) refused → AreRefused d t x after refused
+refused_among : (d t : ℕ) (x : Patch) (left : Picture) (after : List Patch) (refused : List RefusedPoint) → IsEmpty left
+    → AreRefusedOf d t x (IsLaterPoint left after) refused → AreRefused d t x after refused
 refused_among d t x left after refused none h = record {
   rising = h.rising;
   each = λ q. (λ c. (let a = (h.each q).0 c in (inside q a.0, a.1)), λ a. (h.each q).1 (inr a.0, a.1));
@@ -71,19 +75,22 @@ refused_among d t x left after refused none h = record {
     inside q (inr c) = c
 
 -- a point of a later patch near this one is refused
-refused_by : (d t : ℕ) (x : Patch) (after : List Patch) (refused : List RefusedPoint) → AreRefused d t x after refused → (q : Point) → Contains (points_of after) q → (p : Point) → Contains x.points p → Near q p → (why : Refutation) × Refutes d t (x.points ++ q ∷ []) why
+refused_by : (d t : ℕ) (x : Patch) (after : List Patch) (refused : List RefusedPoint) → AreRefused d t x after refused → (q : Point)
+    → Contains (points_of after) q → (p : Point) → Contains x.points p → Near q p → (why : Refutation) × Refutes d t (x.points ++ q ∷ []) why
 refused_by d t x after refused h q c p m near =
     let a = mapped_from (λ (r : RefusedPoint). r.point) refused q ((h.each q).1 (c, (p, m, near))) in
     let k = place_of refused a.0 a.1 in
     (a.0.why, subst (λ (z : Point). Refutes d t (x.points ++ z ∷ []) a.0.why) a.2 (h.weights k.0 a.0 k.1))
 
-got_patch : (found : List FoundPatch) (k : ℕ) (x : Patch) → slice_get (patches_of found) k ≡ Some x → (y : FoundPatch) × (slice_get found k ≡ Some y) × (y.patch ≡ x)
+got_patch : (found : List FoundPatch) (k : ℕ) (x : Patch) → slice_get (patches_of found) k ≡ Some x → (y : FoundPatch) × (slice_get found k ≡ Some y)
+    × (y.patch ≡ x)
 got_patch [] k x e = cc
 got_patch (y ∷ found) zero x e = (y, refl, (let h : y.patch ≡ x = cc in h))
 got_patch (y ∷ found) (suc k) x e = got_patch found k x e
 
 -- where no point of a face is left, the patches are a partition of its exposed points
-pub parted_all : (d t : ℕ) (X : Picture) (sense : Sense) (first : Picture) (found : List FoundPatch) (left : Picture) → IsFace X t sense first → IsParted d t first found left → IsEmpty left → ArePatches d X t sense found
+pub parted_all : (d t : ℕ) (X : Picture) (sense : Sense) (first : Picture) (found : List FoundPatch) (left : Picture) → IsFace X t sense first
+    → IsParted d t first found left → IsEmpty left → ArePatches d X t sense found
 parted_all d t X sense first found left face v none = record {
   partition = record {
     once = v.parting.once;
@@ -103,12 +110,15 @@ parted_all d t X sense first found left face v none = record {
     refused : (k : ℕ) (x : FoundPatch) → slice_get found k ≡ Some x → AreRefused d t x.patch (patches_of (drop (suc k) found)) x.refused
     refused k x f = refused_among d t x.patch left (patches_of (drop (suc k) found)) x.refused none (v.refusing.each k x f)
 
-    each : (k : ℕ) (x : Patch) → slice_get (patches_of found) k ≡ Some x → (y : FoundPatch) × (slice_get found k ≡ Some y) × (y.patch ≡ x) → IsPatch d t (exposed_points X t sense) (take k (patches_of found)) x (drop (suc k) (patches_of found))
+    each : (k : ℕ) (x : Patch) → slice_get (patches_of found) k ≡ Some x → (y : FoundPatch) × (slice_get found k ≡ Some y) × (y.patch ≡ x)
+        → IsPatch d t (exposed_points X t sense) (take k (patches_of found)) x (drop (suc k) (patches_of found))
     each k x f y = (let w = v.parting.part k x f in record {
       first = (w.start, w.first, record { there = (e w.start).0 w.there; left = w.fresh; first = λ q c b. w.least q ((e q).1 c) b });
       grows = w.grows;
       plane = w.plane;
-      refused = subst (λ (z : Patch). (q : Point) → Contains (points_of (drop (suc k) (patches_of found))) q → (p : Point) → Contains z.points p → Near q p → (why : Refutation) × Refutes d t (z.points ++ q ∷ []) why) y.2
-          (subst (λ (after : List Patch). (q : Point) → Contains (points_of after) q → (p : Point) → Contains y.0.patch.points p → Near q p → (why : Refutation) × Refutes d t (y.0.patch.points ++ q ∷ []) why) (sym (drop-map (λ (z : FoundPatch). z.patch) (suc k) found))
+      refused = subst (λ (z : Patch). (q : Point) → Contains (points_of (drop (suc k) (patches_of found))) q → (p : Point) → Contains z.points p → Near q p
+          → (why : Refutation) × Refutes d t (z.points ++ q ∷ []) why) y.2
+          (subst (λ (after : List Patch). (q : Point) → Contains (points_of after) q → (p : Point) → Contains y.0.patch.points p → Near q p
+          → (why : Refutation) × Refutes d t (y.0.patch.points ++ q ∷ []) why) (sym (drop-map (λ (z : FoundPatch). z.patch) (suc k) found))
           (refused_by d t y.0.patch (patches_of (drop (suc k) found)) y.0.refused (refused k y.0 y.1)));
     })

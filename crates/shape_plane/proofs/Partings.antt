@@ -25,12 +25,16 @@ points_more (y ∷ parts) x = ap (λ (z : List Point). y.points ++ z) (points_mo
 part_same : (t : ℕ) (face : Point → Type 0) (before before' : List Patch) (x : Patch) → before' ≡ before → IsPart t face before x → IsPart t face before' x
 part_same t face before before' x e h = subst (λ (b : List Patch). IsPart t face b x) (sym e) h
 
-pub parting_more : (t : ℕ) (face : Point → Type 0) (parts : List Patch) (left left' : Picture) (x : Patch) → IsParting t face parts left → IsNewPart t left left' x → IsParting t face (parts ++ x ∷ []) left'
+pub parting_more : (t : ℕ) (face : Point → Type 0) (parts : List Patch) (left left' : Picture) (x : Patch) → IsParting t face parts left
+    → IsNewPart t left left' x → IsParting t face (parts ++ x ∷ []) left'
 parting_more t face parts left left' x h n = record {
-  free = λ q a. (let b = n.free q a in let c = h.free q b.0 in (c.0, λ m. neither q c.1 b.1 (Contains-append_cases (points_of parts) x.points q (subst (λ (l : List Point). Contains l q) (points_more parts x) m))));
+  free = λ q a. (let b = n.free q a in let c = h.free q b.0 in
+      (c.0, λ m. neither q c.1 b.1 (Contains-append_cases (points_of parts) x.points q (subst (λ (l : List Point). Contains l q) (points_more parts x) m))));
   rest = λ q a. stays q (h.rest q a);
   taken = λ q m. by_part q (Contains-append_cases (points_of parts) x.points q (subst (λ (l : List Point). Contains l q) (points_more parts x) m));
-  once = subst (AllPairs (λ p q. p ≡ q → ⊥)) (sym (points_more parts x)) (pairs-append (λ p q. p ≡ q → ⊥) (points_of parts) x.points h.once n.once (λ p q a b e. (h.free q (n.taken q b)).1 (subst (Contains (points_of parts)) e a)));
+  once = subst (AllPairs (λ p q. p ≡ q → ⊥)) (sym (points_more parts x))
+      (pairs-append (λ p q. p ≡ q → ⊥) (points_of parts) x.points h.once n.once
+      (λ p q a b e. (h.free q (n.taken q b)).1 (subst (Contains (points_of parts)) e a)));
   part = λ k y e. each k y (get_push parts x k y e);
 }
   where
@@ -69,12 +73,14 @@ parting_more t face parts left left' x h n = record {
         gone q b (inl a) = absurd (n.least q a b)
         gone q b (inr c) = c
 
-    each : (k : ℕ) (y : Patch) → ((slice_get parts k ≡ Some y) × (take k (parts ++ x ∷ []) ≡ take k parts)) ⊎ ((x ≡ y) × (take k (parts ++ x ∷ []) ≡ parts) × (k ≡ length parts)) → IsPart t face (take k (parts ++ x ∷ [])) y
+    each : (k : ℕ) (y : Patch) → ((slice_get parts k ≡ Some y) × (take k (parts ++ x ∷ []) ≡ take k parts))
+        ⊎ ((x ≡ y) × (take k (parts ++ x ∷ []) ≡ parts) × (k ≡ length parts)) → IsPart t face (take k (parts ++ x ∷ [])) y
     each k y (inl a) = part_same t face (take k parts) (take k (parts ++ x ∷ [])) y a.1 (h.part k y a.0)
     each k y (inr a) = subst (IsPart t face (take k (parts ++ x ∷ []))) a.0 (part_same t face parts (take k (parts ++ x ∷ [])) x a.1 new)
 
 -- the patch that has grown from a point before which nothing is left
-pub new_part : (d n t : ℕ) (left left' tried : Picture) (p : Point) (k : ℕ) (g : Grown) (refused : List Refusal) (x : Patch) → IsGoing d n t left p k g left' tried refused
+pub new_part : (d n t : ℕ) (left left' tried : Picture) (p : Point) (k : ℕ) (g : Grown) (refused : List Refusal) (x : Patch)
+    → IsGoing d n t left p k g left' tried refused
     → x.points ≡ g.points → IsNaiveFor t g.points x.plane → IsTrue (at left p) → ((q : Point) → IsTrue (at left q) → Before q p → ⊥) → IsNewPart t left left' x
 new_part d n t left left' tried p k g refused x h e plane l least = record {
   free = λ q a. (let b = h.spreading.left q a in (b.0, λ m. b.1 (subst (λ (z : List Point). Contains z q) e m)));

@@ -1,6 +1,7 @@
 -- The refused points of a patch that has grown, and those of all patches of a face.
 -- How a patch grows stands elsewhere.
-use Rattle.std.proofs.Common.{◌≡◌, ℕ, zero, suc, ◌-◌, ◌<◌, ◌≤◌, ◌^◌, ◌⊎◌, inl, inr, List, [], ◌∷◌, ◌++◌, length, map, take, drop, get_or, refl, ap, sym, subst, ◌∙◌, arith}
+use Rattle.std.proofs.Common.{◌≡◌, ℕ, zero, suc, ◌-◌, ◌<◌, ◌≤◌, ◌^◌, ◌⊎◌, inl, inr, List, [], ◌∷◌, ◌++◌, length, map, take, drop, get_or, refl, ap, sym, subst}
+use Rattle.std.proofs.Common.{◌∙◌, arith}
 use Rattle.std.specs.Prelude.{IsTrue, All, Contains, AllPairs, IsPermutation, slice_get, Some, ◌↔◌}
 use Rattle.std.specs.List.Sorted.{IsNonDecreasingBy}
 use Rattle.std.proofs.lemmas.List.{take-append-drop, length-map, map-append}
@@ -19,7 +20,7 @@ use Rattle.shape_terms.proofs.NeighbourNumbers.{near_number}
 use Rattle.shape_terms.proofs.AdjacencySymmetric.{near_sym}
 use Rattle.shape_terms.specs.Patches.{Patch, RefusedPoint, FoundPatch, points_of}
 use Rattle.shape_terms.proofs.ListPushes.{get_push}
-use Rattle.shape_slope.specs.Pairs.{AreSmallWeights}
+use Rattle.shape_plane.specs.Pairs.{AreSmallWeights}
 use Rattle.shape_plane.specs.ToldAnew.{told_share, told_anew}
 use Rattle.shape_plane.specs.Found.{told_point, refused_point, found_patch}
 use Rattle.shape_refute.specs.declared.naive.Naive.{Naive}
@@ -44,7 +45,8 @@ got_from f xs k y e = mapped_from f xs y (got (map f xs) k y e)
 
 pub pairs_mapped : {X Y : Type 0} (f : X → Y) (R : Y → Y → Type 0) (xs : List X) → AllPairs (λ a b. R (f a) (f b)) xs → AllPairs R (map f xs)
 pairs_mapped f R [] h = λ i j d l m. absurd (omega arith)
-pairs_mapped {X} {Y} f R (x ∷ xs) h = pairs-cons R (f x) (map f xs) (All-each (R (f x)) (map f xs) first) (pairs_mapped f R xs (λ i j d l m. h (suc i) (suc j) d (omega arith) (omega arith)))
+pairs_mapped {X} {Y} f R (x ∷ xs) h = pairs-cons R (f x) (map f xs) (All-each (R (f x)) (map f xs) first)
+    (pairs_mapped f R xs (λ i j d l m. h (suc i) (suc j) d (omega arith) (omega arith)))
   where
     first : (y : Y) → Contains (map f xs) y → R (f x) y
     first y c = (let r = mapped_from f xs y c in subst (R (f x)) (ap f r.1.2 ∙ r.2) (h 0 (suc r.1.0) r.0 (omega arith) (let m = r.1.1 in omega (arith, m))))
@@ -77,9 +79,11 @@ rising_mapped {X} {Y} f n (x ∷ xs) h i j d l m =
 
 -- ---- weights told anew
 
-told_light : (from to : ℕ) (shares : List Share) → All (λ (s : Share). s.weight < plane_weight) shares → All (λ (s : Share). s.weight < plane_weight) (map (told_share from to) shares)
+told_light : (from to : ℕ) (shares : List Share) → All (λ (s : Share). s.weight < plane_weight) shares
+    → All (λ (s : Share). s.weight < plane_weight) (map (told_share from to) shares)
 told_light from to shares h = All-each (λ (s : Share). s.weight < plane_weight) (map (told_share from to) shares)
-    (λ y c. (let r = mapped_from (told_share from to) shares y c in let k = r.1 in subst (λ (s : Share). s.weight < plane_weight) r.2 (subst (λ (s : Share). s.weight < plane_weight) k.2 (h k.0 r.0 k.1))))
+    (λ y c. (let r = mapped_from (told_share from to) shares y c in let k = r.1 in subst (λ (s : Share). s.weight < plane_weight) r.2
+    (subst (λ (s : Share). s.weight < plane_weight) k.2 (h k.0 r.0 k.1))))
 
 pub told_small : (from to : ℕ) (why : Refutation) → AreSmallWeights why → AreSmallWeights (told_anew from to why)
 told_small from to why h = record {
@@ -91,19 +95,25 @@ told_small from to why h = record {
   steps = h.steps;
 }
 
-pub told_read : (d : ℕ) (points : List Point) (plane : Naive) (refused : List Refusal) (x : FoundPatch) (i m : ℕ) (r : Refusal) (told : Refutation) → found_patch d points plane refused ≡ x
+pub told_read : (d : ℕ) (points : List Point) (plane : Naive) (refused : List Refusal) (x : FoundPatch) (i m : ℕ) (r : Refusal) (told : Refutation)
+    → found_patch d points plane refused ≡ x
     → slice_get refused i ≡ Some r → m ≡ length x.patch.points → told ≡ told_anew r.count m r.why → slice_get x.refused i ≡ Some (refused_point r.point told)
-told_read d points plane refused x i m r told e f em et = subst (λ (y : FoundPatch). m ≡ length y.patch.points → slice_get y.refused i ≡ Some (refused_point r.point told)) e
-    (λ k. got_mapped_at (told_point (length points)) refused i r f ∙ ap (λ (w : Refutation). Some (refused_point r.point w)) (ap (λ (n : ℕ). told_anew r.count n r.why) (sym k) ∙ sym et)) em
+told_read d points plane refused x i m r told e f em et =
+    subst (λ (y : FoundPatch). m ≡ length y.patch.points → slice_get y.refused i ≡ Some (refused_point r.point told)) e
+    (λ k. got_mapped_at (told_point (length points)) refused i r f
+    ∙ ap (λ (w : Refutation). Some (refused_point r.point w)) (ap (λ (n : ℕ). told_anew r.count n r.why) (sym k) ∙ sym et)) em
 
 -- ---- one patch
 
 -- each refused point is left beside the patch
-refusal_kept : (d t : ℕ) (first : Picture) (s : Spread) (sorted : List Refusal) → IsSpreading d t first s → IsPermutation s.refused sorted → (r : Refusal) → Contains sorted r → IsRefusal d t s r
-refusal_kept d t first s sorted h p r c = (let k = place_of s.refused r (Contains-permutation sorted s.refused r (IsPermutation-sym s.refused sorted p) c) in h.refused k.0 r k.1)
+refusal_kept : (d t : ℕ) (first : Picture) (s : Spread) (sorted : List Refusal) → IsSpreading d t first s → IsPermutation s.refused sorted → (r : Refusal)
+    → Contains sorted r → IsRefusal d t s r
+refusal_kept d t first s sorted h p r c =
+    (let k = place_of s.refused r (Contains-permutation sorted s.refused r (IsPermutation-sym s.refused sorted p) c) in h.refused k.0 r k.1)
 
 -- the refused points stand in raster order
-rising : (d t : ℕ) (first : Picture) (s : Spread) (sorted : List Refusal) → IsSpreading d t first s → IsPermutation s.refused sorted → IsNonDecreasingBy (λ (r : Refusal). r.number) sorted → AllPairs (λ (a b : Refusal). Before a.point b.point) sorted
+rising : (d t : ℕ) (first : Picture) (s : Spread) (sorted : List Refusal) → IsSpreading d t first s → IsPermutation s.refused sorted
+    → IsNonDecreasingBy (λ (r : Refusal). r.number) sorted → AllPairs (λ (a b : Refusal). Before a.point b.point) sorted
 rising d t first s sorted h p up i j e l m =
     let a = get_or sorted i e in
     let b = get_or sorted j e in
@@ -112,32 +122,38 @@ rising d t first s sorted h p up i j e l m =
     let u = up i j e (omega (arith, l)) m in
     let ex = x.number in
     let ey = y.number in
-    before_by_number s.left.sides a.point b.point (in_sides s.left a.point x.left) (in_sides s.left b.point y.left) (apart_sorted s.refused sorted p h.apart i j e l m) (omega (arith, u, ex, ey))
+    before_by_number s.left.sides a.point b.point (in_sides s.left a.point x.left) (in_sides s.left b.point y.left)
+    (apart_sorted s.refused sorted p h.apart i j e l m) (omega (arith, u, ex, ey))
 
 -- a point that is left beside the patch was refused
 was_refused : (d t : ℕ) (first : Picture) (start : Point) (g : Grown) (left tried : Picture) (refused : List Refusal) (q p : Point)
-    → IsGoing d (length (near_steps d)) t first start (length g.points) g left tried refused → length p ≡ d → IsTrue (at left q) → Contains g.points p → Near q p → Contains (map (λ (r : Refusal). r.point) refused) q
+    → IsGoing d (length (near_steps d)) t first start (length g.points) g left tried refused → length p ≡ d → IsTrue (at left q) → Contains g.points p
+    → Near q p → Contains (map (λ (r : Refusal). r.point) refused) q
 was_refused d t first start g left tried refused q p h lp l c near =
     let n = near_number p q (near_sym q p near) in
     let s = h.settled c.0 p c.1 (slice_get-get_or g.points c.0 p c.1 ∙ ap Some c.2) n.0 (subst (λ (v : ℕ). n.0 < length (near_steps v)) lp n.1) in
     h.spreading.tried q (subst (λ (z : Point). IsTrue (at tried z)) n.2 (s (subst (λ (z : Point). IsTrue (at left z)) (sym n.2) l)))
 
 -- weights of the points of an earlier time, told anew
-later_weights : (d t : ℕ) (points : List Point) (q : Point) (n : ℕ) (why : Refutation) → n ≤ length points → Refutes d t (take n points ++ q ∷ []) why → Refutes d t (points ++ q ∷ []) (told_anew n (length points) why)
+later_weights : (d t : ℕ) (points : List Point) (q : Point) (n : ℕ) (why : Refutation) → n ≤ length points → Refutes d t (take n points ++ q ∷ []) why
+    → Refutes d t (points ++ q ∷ []) (told_anew n (length points) why)
 later_weights d t points q n why l w =
     let whole = take-append-drop n points in
     let front = front_length n points l in
     subst (λ (k : ℕ). Refutes d t (points ++ q ∷ []) (told_anew k (length points) why)) front
-    (subst (λ (z : List Point). Refutes d t (z ++ q ∷ []) (told_anew (length (take n points)) (length z) why)) whole (refutes_longer d t (take n points) (drop n points) q why w))
+    (subst (λ (z : List Point). Refutes d t (z ++ q ∷ []) (told_anew (length (take n points)) (length z) why)) whole
+    (refutes_longer d t (take n points) (drop n points) q why w))
   where
     front_length : (n : ℕ) (xs : List Point) → n ≤ length xs → length (take n xs) ≡ n
     front_length zero xs h = refl
     front_length (suc n) [] h = absurd (omega arith)
     front_length (suc n) (x ∷ xs) h = ap suc (front_length n xs (omega arith))
 
-pub refused_of : (d t : ℕ) (first : Picture) (start : Point) (g : Grown) (left tried : Picture) (refused sorted : List Refusal) (x : Patch) (told : List RefusedPoint)
+pub refused_of : (d t : ℕ) (first : Picture) (start : Point) (g : Grown) (left tried : Picture) (refused sorted : List Refusal) (x : Patch)
+    (told : List RefusedPoint)
     → IsGoing d (length (near_steps d)) t first start (length g.points) g left tried refused → ((p : Point) → Contains g.points p → length p ≡ d)
-    → IsPermutation refused sorted → IsNonDecreasingBy (λ (r : Refusal). r.number) sorted → x.points ≡ g.points → told ≡ map (told_point (length g.points)) sorted
+    → IsPermutation refused sorted → IsNonDecreasingBy (λ (r : Refusal). r.number) sorted → x.points ≡ g.points
+    → told ≡ map (told_point (length g.points)) sorted
     → AreRefusedOf d t x (λ q. IsTrue (at left q)) told
 refused_of d t first start g left tried refused sorted x told h long p up e et = subst (AreRefusedOf d t x (λ q. IsTrue (at left q))) (sym et) (record {
   rising = pairs_mapped f (λ (a b : RefusedPoint). Before a.point b.point) sorted (rising d t first s sorted h.spreading p up);
@@ -145,7 +161,8 @@ refused_of d t first start g left tried refused sorted x told h long p up e et =
   weights = λ k r a. (let z = got_from f sorted k r a in
       let w = kept z.0 z.1 in
       subst (λ (v : RefusedPoint). Refutes d t (x.points ++ v.point ∷ []) v.why) z.2
-      (subst (λ (l : List Point). Refutes d t (l ++ z.0.point ∷ []) (told_anew z.0.count (length g.points) z.0.why)) (sym e) (later_weights d t g.points z.0.point z.0.count z.0.why w.early w.weights.refutes)));
+      (subst (λ (l : List Point). Refutes d t (l ++ z.0.point ∷ []) (told_anew z.0.count (length g.points) z.0.why)) (sym e)
+      (later_weights d t g.points z.0.point z.0.count z.0.why w.early w.weights.refutes)));
 })
   where
     s : Spread
@@ -163,27 +180,34 @@ refused_of d t first start g left tried refused sorted x told h long p up e et =
         let b = mapped_from f sorted a.0 a.1 in
         let w = kept b.0 b.1 in
         let same : b.0.point ≡ q = ap (λ (r : RefusedPoint). r.point) b.2 ∙ a.2 in
-        let n = w.near in
-        (subst (λ (z : Point). IsTrue (at left z)) same w.left, (n.0, subst (λ (l : List Point). Contains l n.0) (sym e) n.1, subst (λ (z : Point). Near z n.0) same n.2))
+        let n = w.near in (
+          subst (λ (z : Point). IsTrue (at left z)) same w.left,
+          (n.0, subst (λ (l : List Point). Contains l n.0) (sym e) n.1, subst (λ (z : Point). Near z n.0) same n.2),
+        )
 
-    told_of : (q : Point) → IsTrue (at left q) × ((y : Point) × Contains x.points y × Near q y) → Contains (map (λ (r : RefusedPoint). r.point) (map f sorted)) q
+    told_of : (q : Point) → IsTrue (at left q) × ((y : Point) × Contains x.points y × Near q y)
+        → Contains (map (λ (r : RefusedPoint). r.point) (map f sorted)) q
     told_of q (l, (y, c, near)) =
         let m = subst (λ (z : List Point). Contains z y) e c in
         let a = mapped_from (λ (r : Refusal). r.point) refused q (was_refused d t first start g left tried refused q y h (long y m) l m near) in
         let b = Contains-permutation refused sorted a.0 p a.1 in
-        subst (Contains (map (λ (r : RefusedPoint). r.point) (map f sorted))) a.2 (Contains-map (λ (r : RefusedPoint). r.point) (map f sorted) (f a.0) (Contains-map f sorted a.0 b))
+        subst (Contains (map (λ (r : RefusedPoint). r.point) (map f sorted))) a.2
+        (Contains-map (λ (r : RefusedPoint). r.point) (map f sorted) (f a.0) (Contains-map f sorted a.0 b))
 
 -- there are few of them, and their weights are small
-pub few_refused : (d t : ℕ) (first : Picture) (s : Spread) (sorted : List Refusal) → IsSpreading d t first s → IsPermutation s.refused sorted → box_count first.sides ≤ most_points → length sorted < 2 ^ 32
+pub few_refused : (d t : ℕ) (first : Picture) (s : Spread) (sorted : List Refusal) → IsSpreading d t first s → IsPermutation s.refused sorted
+    → box_count first.sides ≤ most_points → length sorted < 2 ^ 32
 few_refused d t first s sorted h p few =
     let n = length_permutation s.refused sorted p in
     let m = length-map s.refused (λ (r : Refusal). r.point) in
     let l = few_points s.left.sides (map (λ (r : Refusal). r.point) s.refused) (pairs_mapped (λ (r : Refusal). r.point) (λ a b. a ≡ b → ⊥) s.refused h.apart)
-    (λ q c. (let a = mapped_from (λ (r : Refusal). r.point) s.refused q c in let k = place_of s.refused a.0 a.1 in in_sides s.left q (subst (λ (z : Point). IsTrue (at s.left z)) a.2 (h.refused k.0 a.0 k.1).left))) in
+    (λ q c. (let a = mapped_from (λ (r : Refusal). r.point) s.refused q c in let k = place_of s.refused a.0 a.1 in
+    in_sides s.left q (subst (λ (z : Point). IsTrue (at s.left z)) a.2 (h.refused k.0 a.0 k.1).left))) in
     let e = ap box_count h.left_sides in
     omega (arith, n, m, l, e, few)
 
-pub small_refused : (d t : ℕ) (first : Picture) (s : Spread) (sorted : List Refusal) → IsSpreading d t first s → IsPermutation s.refused sorted → All (λ (r : Refusal). AreSmallWeights r.why) sorted
+pub small_refused : (d t : ℕ) (first : Picture) (s : Spread) (sorted : List Refusal) → IsSpreading d t first s → IsPermutation s.refused sorted
+    → All (λ (r : Refusal). AreSmallWeights r.why) sorted
 small_refused d t first s sorted h p = All-each (λ (r : Refusal). AreSmallWeights r.why) sorted (λ r c. (refusal_kept d t first s sorted h p r c).weights.small)
 
 -- and few points of a patch
@@ -195,7 +219,8 @@ few_taken d t first s h few =
 
 -- ---- all patches
 
-same_later : (d t : ℕ) (x : Patch) (before after : Point → Type 0) (refused : List RefusedPoint) → ((q : Point) → before q ↔ after q) → AreRefusedOf d t x before refused → AreRefusedOf d t x after refused
+same_later : (d t : ℕ) (x : Patch) (before after : Point → Type 0) (refused : List RefusedPoint) → ((q : Point) → before q ↔ after q)
+    → AreRefusedOf d t x before refused → AreRefusedOf d t x after refused
 same_later d t x before after refused e h = record {
   rising = h.rising;
   each = λ q. (λ c. (let a = (h.each q).0 c in ((e q).0 a.0, a.1)), λ a. (h.each q).1 ((e q).1 a.0, a.1));
@@ -220,7 +245,8 @@ nothing_in : (q : Point) → Contains (points_of []) q → ⊥
 nothing_in q c = let l = c.1 in omega (arith, l)
 
 -- the points after a patch stay the same when one more patch takes some that were left
-later_same : (t : ℕ) (left left' : Picture) (x : Patch) (after : List Patch) (q : Point) → IsNewPart t left left' x → IsLaterPoint left after q ↔ IsLaterPoint left' (after ++ x ∷ []) q
+later_same : (t : ℕ) (left left' : Picture) (x : Patch) (after : List Patch) (q : Point) → IsNewPart t left left' x
+    → IsLaterPoint left after q ↔ IsLaterPoint left' (after ++ x ∷ []) q
 later_same t left left' x after q n = (to, from)
   where
     whole : Contains (points_of after ++ x.points) q → Contains (points_of (after ++ x ∷ [])) q
@@ -249,15 +275,19 @@ left_alone left after q e = (λ a. inl a, from)
     from (inl a) = a
     from (inr c) = absurd (nothing_in q (subst (λ (l : List Patch). Contains (points_of l) q) e c))
 
-pub refusing_more : (d t : ℕ) (found : List FoundPatch) (left left' : Picture) (x : FoundPatch) → IsRefusing d t found left → IsNewPart t left left' x.patch → AreRefusedOf d t x.patch (λ q. IsTrue (at left' q)) x.refused → IsRefusing d t (found ++ x ∷ []) left'
+pub refusing_more : (d t : ℕ) (found : List FoundPatch) (left left' : Picture) (x : FoundPatch) → IsRefusing d t found left → IsNewPart t left left' x.patch
+    → AreRefusedOf d t x.patch (λ q. IsTrue (at left' q)) x.refused → IsRefusing d t (found ++ x ∷ []) left'
 refusing_more d t found left left' x h n r = record { each = λ k y e. each k y (get_push found x k y e) }
   where
-    each : (k : ℕ) (y : FoundPatch) → ((slice_get found k ≡ Some y) × (take k (found ++ x ∷ []) ≡ take k found)) ⊎ ((x ≡ y) × (take k (found ++ x ∷ []) ≡ found) × (k ≡ length found))
+    each : (k : ℕ) (y : FoundPatch) → ((slice_get found k ≡ Some y) × (take k (found ++ x ∷ []) ≡ take k found))
+        ⊎ ((x ≡ y) × (take k (found ++ x ∷ []) ≡ found) × (k ≡ length found))
         → AreRefusedOf d t y.patch (IsLaterPoint left' (patches_of (drop (suc k) (found ++ x ∷ [])))) y.refused
     each k y (inl a) =
         let l = slice_get_within found k y a.0 in
-        let e : patches_of (drop (suc k) (found ++ x ∷ [])) ≡ patches_of (drop (suc k) found) ++ x.patch ∷ [] = ap patches_of (drop_within (suc k) found x (omega (arith, l))) ∙ patches_more (drop (suc k) found) x in
+        let e : patches_of (drop (suc k) (found ++ x ∷ [])) ≡ patches_of (drop (suc k) found) ++ x.patch ∷ [] =
+        ap patches_of (drop_within (suc k) found x (omega (arith, l))) ∙ patches_more (drop (suc k) found) x in
         subst (λ (z : List Patch). AreRefusedOf d t y.patch (IsLaterPoint left' z) y.refused) (sym e)
         (same_later d t y.patch _ _ y.refused (λ q. later_same t left left' x.patch (patches_of (drop (suc k) found)) q n) (h.each k y a.0))
     each k y (inr a) = subst (λ (z : FoundPatch). AreRefusedOf d t z.patch (IsLaterPoint left' (patches_of (drop (suc k) (found ++ x ∷ [])))) z.refused) a.0
-        (same_later d t x.patch _ _ x.refused (λ q. left_alone left' (patches_of (drop (suc k) (found ++ x ∷ []))) q (ap patches_of (drop_past k found x a.2))) r)
+        (same_later d t x.patch _ _ x.refused (λ q. left_alone left' (patches_of (drop (suc k) (found ++ x ∷ []))) q (ap patches_of (drop_past k found x a.2)))
+        r)

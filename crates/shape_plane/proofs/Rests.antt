@@ -26,7 +26,8 @@ module _ (rest : ℕ) (small : rest < 2 ^ 32) (more : 0 < rest) where
       ]
 
   -- each other number stays
-  pub rest_keeps : (j : ℕ) → In rest j → (j ≡ count_trailing_zeros 32 rest → ⊥) → In (bit_and rest (bit_not w32 (1 * 2 ^ count_trailing_zeros 32 rest % 2 ^ 32))) j
+  pub rest_keeps : (j : ℕ) → In rest j → (j ≡ count_trailing_zeros 32 rest → ⊥)
+      → In (bit_and rest (bit_not w32 (1 * 2 ^ count_trailing_zeros 32 rest % 2 ^ 32))) j
   rest_keeps j i n = elim (dec_lt j 32) [
     | yes b ↦ bit_at_clear_other w32 rest (count_trailing_zeros 32 rest) least.0 j b n ∙ i
     | no b ↦ absurd (let x = bit_at_above rest 32 j small (omega arith) in omega arith)

@@ -6,7 +6,7 @@ use Rattle.shape_terms.specs.Refutations.{Refutation}
 use Rattle.shape_terms.specs.Patches.{RefusedPoint, FoundPatch}
 use Rattle.shape_refute.specs.declared.naive.Naive.{Naive}
 use Rattle.shape_refute.specs.Terms.{naive_of}
-use Rattle.shape_slope.specs.Pairs.{AreSmallWeights}
+use Rattle.shape_plane.specs.Pairs.{AreSmallWeights}
 use Rattle.shape_plane.specs.Verdicts.{IsHeld}
 use Rattle.shape_plane.specs.ToldAnew.{told_anew}
 use Rattle.shape_plane.specs.Trials.{Refusal}

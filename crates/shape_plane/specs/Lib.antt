@@ -1,3 +1,14 @@
+pub mod Rows
+pub mod Bounds
+pub mod Pairs
+pub mod Combinations
+pub mod Ranges
+pub mod Spans
+pub mod Solutions
+pub mod Systems
+pub mod Weighing
+pub mod Solved
+pub mod Knowing
 pub mod Extremes
 pub mod Verdicts
 pub mod Growth

@@ -27,7 +27,8 @@ pub record IsParting (t : ℕ) (face : Point → Type 0) (parts : List Patch) (l
   pub once : AllPairs (λ p q. p ≡ q → ⊥) (points_of parts)
   pub part : (k : ℕ) (x : Patch) → slice_get parts k ≡ Some x → IsPart t face (take k parts) x
 
--- the refused points are, once and in raster order, the later points that are Near a point of the patch, each with weights that refute the patch with it put last
+-- the refused points are, once and in raster order, the later points that are Near a point of the patch, each with weights that refute the patch with it put
+-- last
 pub record AreRefusedOf (d t : ℕ) (patch : Patch) (later : Point → Type 0) (refused : List RefusedPoint) : Type 0 where
   pub rising : AllPairs (λ (a b : RefusedPoint). Before a.point b.point) refused
   pub each : (q : Point) → Contains (map (λ (r : RefusedPoint). r.point) refused) q ↔ (later q × ((p : Point) × Contains patch.points p × Near q p))

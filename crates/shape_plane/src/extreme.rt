@@ -1,7 +1,7 @@
 //! The places of the least and of the greatest value of coefficients among a list of points.
 //! Of several such places none is preferred.
 ghost use Rattle.std.specs.Prelude.{◌≡◌, ◌⊎◌, ◌≤◌, ◌<◌, ◌+◌, ◌^◌, ℕ, ℤ, ◌≤ℤ◌, map, length};
-ghost use Rattle.shape_slope.specs.Pairs.{AreInside, AreSmallCoefficients};
+ghost use Rattle.shape_plane.specs.Pairs.{AreInside, AreSmallCoefficients};
 ghost use Rattle.shape_plane.specs.Extremes.{values_at, AreExtremes, IsExtreme};
 
 use crate::values::value;

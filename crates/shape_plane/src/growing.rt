@@ -2,14 +2,15 @@
 //! The present line or plane is tried first, so a point that it holds costs no search.
 ghost use Rattle.std.specs.Prelude.{◌≡◌, ◌<◌, ◌^◌, ◌+◌, ◌-◌, ◌↔◌, [], ◌∷◌, ◌++◌, IsTrue, IfOk, Some, slice_get, map, length, pos, ◌-ℤ◌};
 ghost use Rattle.shape_terms.specs.FramedBox.{IsWithin};
-ghost use Rattle.shape_slope.specs.Pairs.{AreInside, IsPair};
+ghost use Rattle.shape_plane.specs.Pairs.{AreInside, IsPair};
 ghost use Rattle.shape_plane.specs.Verdicts.{IsHeld, IsFlatFor, AreRowsOf};
 ghost use Rattle.shape_plane.specs.Growth.{HasExtended, IsAdded, says_yes};
 
 use crate::held::{Held, Tested, try_last};
+use crate::known::Known;
+use crate::pair::Pair;
 use crate::verdict::{Decided, decide_by, decide_with};
 use shape_refute::{Naive, Refutation};
-use shape_slope::{Known, Pair};
 use shape_space::{NoMemory, Point};
 use std::alloc::Global;
 use std::marker::Model;

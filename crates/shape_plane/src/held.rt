@@ -4,15 +4,15 @@ ghost use Rattle.std.specs.Prelude.{◌≡◌, ◌<◌, ◌≤◌, ◌^◌, ◌�
 ghost use Rattle.shape_terms.specs.Points.{Point as Place, coordinate};
 ghost use Rattle.shape_terms.specs.FramedBox.{IsWithin};
 ghost use Rattle.shape_terms.specs.Naive.{IsProper};
-ghost use Rattle.shape_slope.specs.Pairs.{AreInside, AreSmallCoefficients};
+ghost use Rattle.shape_plane.specs.Pairs.{AreInside, AreSmallCoefficients};
 ghost use Rattle.shape_plane.specs.Extremes.{values_at, AreExtremes};
 ghost use Rattle.shape_plane.specs.Verdicts.{IsTested, IsKept};
 
 use crate::exact::above;
 use crate::extreme::{Extreme, Extremes, least_and_greatest, widened};
+use crate::pair::Pair;
 use crate::values::value;
 use shape_refute::Naive;
-use shape_slope::Pair;
 use shape_space::Point;
 
 /// A proper line or plane that holds a list of points, with the extremes of its coefficients there.

@@ -2,7 +2,7 @@
 //! How a patch grows belongs elsewhere.
 ghost use Rattle.std.specs.Prelude.{◌≡◌, ◌<◌, ◌^◌, All, Some, slice_get, map, length};
 ghost use Rattle.shape_terms.specs.Naive.{IsNaiveFor};
-ghost use Rattle.shape_slope.specs.Pairs.{AreSmallWeights};
+ghost use Rattle.shape_plane.specs.Pairs.{AreSmallWeights};
 ghost use Rattle.shape_refute.specs.Terms.{naive_of};
 ghost use Rattle.shape_refute.specs.Weights.{refutation_of};
 ghost use Rattle.shape_plane.specs.Verdicts.{IsHeld};

@@ -1,12 +1,14 @@
 //! The verdict on a list of points for an axis: a line or plane that holds it, or weights that refute all of them.
 //! Pairs are added one at a time, until the slopes that meet them break none.
 ghost use Rattle.std.specs.Prelude.{◌≡◌, ◌<◌, ◌≤◌, ◌^◌, ◌↔◌, IsTrue, IfOk, map, length};
-ghost use Rattle.shape_slope.specs.Pairs.{AreInside, IsPair};
+ghost use Rattle.shape_plane.specs.Pairs.{AreInside, IsPair};
 ghost use Rattle.shape_plane.specs.Verdicts.{IsVerdict, IsDecided, IsFlatFor, AreRowsOf, HasGrown, is_flat as says_flat, verdict_told as told};
 
+use crate::answer::Solved;
 use crate::held::{Held, Tested, try_slopes};
+use crate::known::Known;
+use crate::pair::Pair;
 use shape_refute::{Naive, Refutation};
-use shape_slope::{Known, Pair, Solved};
 use shape_space::{NoMemory, Point};
 use std::alloc::Global;
 

@@ -1,6 +1,7 @@
 -- The steps of a thinning: it begins, its least key is marked or deleted, and it ends.
 -- Laws over pictures, stages and keys alone.
-use Rattle.std.proofs.Common.{◌≡◌, ◌⊎◌, ℕ, ◌+◌, ◌<◌, ◌≤◌, Bool, true, false, cond, List, [], ◌∷◌, ◌++◌, length, slice_index, refl, sym, ◌∙◌, ap, subst, arith, mul_comm, ◌*◌}
+use Rattle.std.proofs.Common.{◌≡◌, ◌⊎◌, ℕ, ◌+◌, ◌<◌, ◌≤◌, Bool, true, false, cond, List, [], ◌∷◌, ◌++◌, length, slice_index, refl, sym, ◌∙◌, ap, subst, arith}
+use Rattle.std.proofs.Common.{mul_comm, ◌*◌}
 use Rattle.std.specs.Ordering.{is_gt}
 use Rattle.std.proofs.lemmas.Bool.{and_parts}
 use Rattle.std.proofs.lemmas.Fn.{FoldsTo-push}
@@ -24,7 +25,8 @@ use Rattle.shape_queue.specs.Events.{event_by}
 use Rattle.shape_queue.specs.Going.{stage_of, Reach, IsFrontOf, IsGoing}
 use Rattle.shape_queue.proofs.RankLaws.{rank_behind}
 use Rattle.shape_queue.proofs.SomeDistance.{some_distance}
-use Rattle.shape_queue.proofs.StageSteps.{none_waits, taken_place, taken_reached, taken_next, deleted_stands, deleted_ahead, marked_stands, marked_waits, deleted_waits}
+use Rattle.shape_queue.proofs.StageSteps.{none_waits, taken_place, taken_reached, taken_next, deleted_stands, deleted_ahead, marked_stands, marked_waits}
+use Rattle.shape_queue.proofs.StageSteps.{deleted_waits}
 
 -- no point is one of the blank picture
 none_blank : (sides : List ℕ) (q : Point) → Object (blank sides) q → ⊥
@@ -76,7 +78,8 @@ front_start d X ds keys state w h none reached r ds' e n c first b = rw (r, b, e
 -- ---- the front of whatever rule's thinning
 
 -- k is a key, and q its point, which is taken out of those reached
-module _ (X : Picture) (marked : List Point) (state : List ℕ) (left : Picture) (f : Reach) (h : IsFrontOf X (stage_of left marked state) f) (k : Key) (there : f.keys k ≡ true) where
+module _ (X : Picture) (marked : List Point) (state : List ℕ) (left : Picture) (f : Reach) (h : IsFrontOf X (stage_of left marked state) f) (k : Key)
+    (there : f.keys k ≡ true) where
   pub key_place : k.place < box_count left.sides
   key_place = subst (λ n. k.place < box_count n) (sym h.stands.sides) (taken_place X (stage_of left marked state) f h k there)
 
@@ -92,7 +95,8 @@ module _ (X : Picture) (marked : List Point) (state : List ℕ) (left : Picture)
       one_reached_less = rw g (one_object_less f.reached q h.stands.reached_filled at_reached)
 
       module _ (new : Key → Bool) (put : Put f.keys new k false) (state' : List ℕ) where
-        pub front_marked : IsFrontOf X (stage_of left (q ∷ marked) state') (record { reached = reached'; distances = f.distances; keys = new; passed = f.passed; ahead = f.ahead })
+        pub front_marked : IsFrontOf X (stage_of left (q ∷ marked) state')
+            (record { reached = reached'; distances = f.distances; keys = new; passed = f.passed; ahead = f.ahead })
         front_marked = rw (g, in_opening) (record {
           stands = marked_stands X (stage_of left marked state) f h k there state';
           waits = marked_waits X (stage_of left marked state) f h k there new put;
@@ -103,7 +107,8 @@ module _ (X : Picture) (marked : List Point) (state : List ℕ) (left : Picture)
         module _ (left' : Picture) (d : left' ≡ without left q) where
           -- the queue while the near points of a deleted one are to be looked at
           pub near_first : IsQueueBut q f.passed left' reached' f.distances new
-          near_first = subst (λ n. Waits n left' reached' f.distances (λ i. IsAhead f.distances f.passed i ⊎ Near q (raster_point n i)) new) (sym (ap (λ (Y : Picture). Y.sides) d ∙ h.stands.sides))
+          near_first = subst (λ n. Waits n left' reached' f.distances (λ i. IsAhead f.distances f.passed i ⊎ Near q (raster_point n i)) new)
+              (sym (ap (λ (Y : Picture). Y.sides) d ∙ h.stands.sides))
               (rw (d, g, in_opening) (deleted_waits X (stage_of left marked state) f h k there new put))
 
           pub deleted_stands_at : Stands X (stage_of left' marked state') reached' f.distances f.passed
@@ -111,10 +116,12 @@ module _ (X : Picture) (marked : List Point) (state : List ℕ) (left : Picture)
 
           -- and when they were looked at
           pub front_deleted : (last : Key → Bool) → (IsQueueBut q f.passed left' reached' f.distances new → IsQueue f.passed left' reached' f.distances last)
-              → IsFrontOf X (stage_of left' marked state') (record { reached = reached'; distances = f.distances; keys = last; passed = f.passed; ahead = f.ahead })
+              → IsFrontOf X (stage_of left' marked state')
+              (record { reached = reached'; distances = f.distances; keys = last; passed = f.passed; ahead = f.ahead })
           front_deleted last looked = record {
             stands = deleted_stands_at;
-            waits = subst (λ z. Waits z left' reached' f.distances (IsAhead f.distances f.passed) last) (ap (λ (Y : Picture). Y.sides) d ∙ h.stands.sides) (looked near_first);
+            waits = subst (λ z. Waits z left' reached' f.distances (IsAhead f.distances f.passed) last) (ap (λ (Y : Picture). Y.sides) d ∙ h.stands.sides)
+                (looked near_first);
             rest = rw (d, in_opening) (deleted_ahead X (stage_of left marked state) f h k there);
             begun = h.begun;
           }
@@ -136,7 +143,8 @@ module _ (rule : Rule) (X : Picture) (events : List Event) (state : List ℕ) (l
     next = rw at_place (taken_next X (stage_of left c.marked state) f c.front k there least n (near ∙ ap (near_count left) at_place))
 
     pub one_event : (m : Bool) → rule.marks state (record { neighbours = n; distance = k.distance }) ≡ m
-        → ThinStep rule X (stage_of left c.marked state) (event_by m q) (stage_after rule (stage_of left c.marked state) (event_by m q) (record { neighbours = n; distance = k.distance }))
+        → ThinStep rule X (stage_of left c.marked state) (event_by m q)
+        (stage_after rule (stage_of left c.marked state) (event_by m q) (record { neighbours = n; distance = k.distance }))
     one_event m h = (q, record { neighbours = n; distance = k.distance }, next, ap (λ b. event_by b q) (sym h), refl)
 
     -- the front after the event is told by whoever made it
@@ -155,7 +163,8 @@ module _ (rule : Rule) (X : Picture) (events : List Event) (state : List ℕ) (l
     going_deleted f' left' d m h = record {
       marked = c.marked;
       front = h;
-      thins = subst (λ Y. ThinsTo rule X (events ++ event_by false q ∷ []) (stage_of Y c.marked (rule.next state (record { neighbours = n; distance = k.distance })))) (sym d)
+      thins = subst (λ Y. ThinsTo rule X (events ++ event_by false q ∷ [])
+          (stage_of Y c.marked (rule.next state (record { neighbours = n; distance = k.distance })))) (sym d)
           (FoldsTo-push (ThinStep rule X) (opening_stage rule X) events (stage_of left c.marked state) (event_by false q) _ c.thins (one_event false m));
     }
 

@@ -33,7 +33,8 @@ not_above a b h = elim (cases_lt a.distance b.distance) [
     | inr n ↦ (
         let e : a.distance ≡ b.distance = omega arith in
         elim (cases_lt b.place a.place) [
-          | inl l ↦ absurd (let t : is_gt (key_cmp a b) ≡ true = rw (nat_same a.distance b.distance e, nat_more a.place b.place l) refl in let f : true ≡ false = sym t ∙ h in cc)
+          | inl l ↦ absurd (let t : is_gt (key_cmp a b) ≡ true = rw (nat_same a.distance b.distance e, nat_more a.place b.place l) refl in
+              let f : true ≡ false = sym t ∙ h in cc)
           | inr o ↦ inr (e, o)
         ])
   ]
@@ -47,9 +48,11 @@ at_only a b h = elim (cases_lt a.distance b.distance) [
     | inr n ↦ (
         let e : a.distance ≡ b.distance = omega arith in
         elim (cases_lt a.place b.place) [
-          | inl l ↦ absurd (let t : is_at (key_cmp a) b ≡ false = rw (nat_same a.distance b.distance e, nat_less a.place b.place l) refl in let f : false ≡ true = sym t ∙ h in cc)
+          | inl l ↦ absurd (let t : is_at (key_cmp a) b ≡ false = rw (nat_same a.distance b.distance e, nat_less a.place b.place l) refl in
+              let f : false ≡ true = sym t ∙ h in cc)
           | inr o ↦ elim (cases_lt b.place a.place) [
-            | inl l ↦ absurd (let t : is_at (key_cmp a) b ≡ false = rw (nat_same a.distance b.distance e, nat_more a.place b.place l) refl in let f : false ≡ true = sym t ∙ h in cc)
+            | inl l ↦ absurd (let t : is_at (key_cmp a) b ≡ false = rw (nat_same a.distance b.distance e, nat_more a.place b.place l) refl in
+                let f : false ≡ true = sym t ∙ h in cc)
             | inr u ↦ same_key a b e (omega arith)
           ]
         ])

@@ -32,7 +32,8 @@ one_object_more X p filled inside n =
     let a = object_count X filled in
     let b = object_count (with_value X p true) (length-set X.values (raster_number X.sides p) true ∙ filled) in
     let s = sum_by-set (λ b. cond b 1 0) X.values (raster_number X.sides p) true false (omega arith) in
-    let t : ◌≡◌ {A = ℕ} (cond (get_or X.values (raster_number X.sides p) false) 1 0) 0 = none (get_or X.values (raster_number X.sides p) false) (λ e. n (rw inside e)) in
+    let t : ◌≡◌ {A = ℕ} (cond (get_or X.values (raster_number X.sides p) false) 1 0) 0 = none (get_or X.values (raster_number X.sides p) false)
+    (λ e. n (rw inside e)) in
     omega arith
   where
     none : (b : Bool) → (b ≡ true → ⊥) → ◌≡◌ {A = ℕ} (cond b 1 0) 0
@@ -94,7 +95,8 @@ module _ (X : Picture) (s : Stage) (f : Reach) (h : IsFrontOf X s f) (i : ℕ) (
         distance = st.distance;
         some = st.some;
       };
-      waits = passed_more X.sides s.left f.reached f.distances (IsAhead f.distances f.passed) (IsAhead f.distances (f.passed + 1)) f.keys f.keys h.waits (raster_point X.sides i) not_reached
+      waits = passed_more X.sides s.left f.reached f.distances (IsAhead f.distances f.passed) (IsAhead f.distances (f.passed + 1)) f.keys f.keys h.waits
+          (raster_point X.sides i) not_reached
           (λ j m n a. ahead_still j m (λ e. n (ap (raster_point X.sides) e)) a);
       rest = record {
         points = h.rest.points;
@@ -104,7 +106,8 @@ module _ (X : Picture) (s : Stage) (f : Reach) (h : IsFrontOf X s f) (i : ℕ) (
           (λ o. let g = (h.rest.points_are q).0 o in (
             g.0,
             subst (λ n. IsAhead f.distances (f.passed + 1) (raster_number n q)) (sym st.sides)
-                (ahead_still (raster_number X.sides q) (of_object X s f h q g.0).0 (apart q g.0 (other q g.0)) (subst (λ n. IsAhead f.distances f.passed (raster_number n q)) st.sides g.1)),
+                (ahead_still (raster_number X.sides q) (of_object X s f h q g.0).0 (apart q g.0 (other q g.0))
+                (subst (λ n. IsAhead f.distances f.passed (raster_number n q)) st.sides g.1)),
           )),
           λ o. (h.rest.points_are q).1 (o.0, omega (arith, o.1)),
         );
@@ -131,7 +134,8 @@ module _ (X : Picture) (s : Stage) (f : Reach) (h : IsFrontOf X s f) (i : ℕ) (
     one_reached = one_object_more f.reached (raster_point X.sides i) st.reached_filled in_reached not_reached
 
     in_points : Object h.rest.points (raster_point X.sides i)
-    in_points = (h.rest.points_are (raster_point X.sides i)).1 (there, subst (λ n. IsAhead f.distances f.passed (raster_number n (raster_point X.sides i))) (sym st.sides) here_ahead)
+    in_points = (h.rest.points_are (raster_point X.sides i)).1
+        (there, subst (λ n. IsAhead f.distances f.passed (raster_number n (raster_point X.sides i))) (sym st.sides) here_ahead)
 
     stands_met : Stands X s (with_value f.reached (raster_point X.sides i) true) f.distances (f.passed + 1)
     stands_met = record {
@@ -167,8 +171,10 @@ module _ (X : Picture) (s : Stage) (f : Reach) (h : IsFrontOf X s f) (i : ℕ) (
         → Waits X.sides s.left (with_value f.reached (raster_point X.sides i) true) f.distances (IsAhead f.distances (f.passed + 1)) new
     waits_met new b is put =
         let w = reached_more X.sides s.left f.reached f.distances (IsAhead f.distances f.passed) (IsAhead f.distances f.passed) f.keys f.keys h.waits i
-        (with_value f.reached (raster_point X.sides i) true) (omega (arith, rank)) was_there (λ j n m o. sym (as_before (raster_point X.sides j) (elsewhere j m n)) ∙ o) in
-        settled_more X.sides s.left (with_value f.reached (raster_point X.sides i) true) f.distances (IsAhead f.distances f.passed) (IsAhead f.distances (f.passed + 1)) f.keys new w i b l now_there
+        (with_value f.reached (raster_point X.sides i) true) (omega (arith, rank)) was_there
+        (λ j n m o. sym (as_before (raster_point X.sides j) (elsewhere j m n)) ∙ o) in
+        settled_more X.sides s.left (with_value f.reached (raster_point X.sides i) true) f.distances (IsAhead f.distances f.passed)
+        (IsAhead f.distances (f.passed + 1)) f.keys new w i b l now_there
         ((λ t. (now_there, is.0 t)), λ m. is.1 m.1) put (λ j m n a. ahead_still j m n a)
 
     rest_met : (n : ℕ) → n + 1 ≡ f.ahead → AreAhead s.left f.distances (f.passed + 1) n
@@ -178,16 +184,19 @@ module _ (X : Picture) (s : Stage) (f : Reach) (h : IsFrontOf X s f) (i : ℕ) (
       filled = length-set h.rest.points.values (raster_number h.rest.points.sides (raster_point X.sides i)) false ∙ h.rest.filled;
       points_are = λ q. elim (same_point q (raster_point X.sides i)) [
         | yes e ↦ (
-          (λ o. absurd (let z : false ≡ true = sym (value_gone h.rest.points (raster_point X.sides i)) ∙ ap (at (without h.rest.points (raster_point X.sides i))) (sym e) ∙ o in cc)),
+          (λ o. absurd (let z : false ≡ true = sym (value_gone h.rest.points (raster_point X.sides i))
+              ∙ ap (at (without h.rest.points (raster_point X.sides i))) (sym e) ∙ o in cc)),
           λ o. absurd (let a : IsAhead f.distances (f.passed + 1) (raster_number X.sides (raster_point X.sides i)) =
-              subst (λ r. IsAhead f.distances (f.passed + 1) (raster_number X.sides r)) e (subst (λ n. IsAhead f.distances (f.passed + 1) (raster_number n q)) st.sides o.1) in
+              subst (λ r. IsAhead f.distances (f.passed + 1) (raster_number X.sides r)) e
+              (subst (λ n. IsAhead f.distances (f.passed + 1) (raster_number n q)) st.sides o.1) in
               let g = ap (rank_in f.distances) (raster_number-raster_point X.sides i l) in omega (arith, a, g, rank)),
         )
         | no n ↦ (
           (λ o. let g = (h.rest.points_are q).0 (sym (less_before q n) ∙ o) in (
             g.0,
             subst (λ n. IsAhead f.distances (f.passed + 1) (raster_number n q)) (sym st.sides)
-                (ahead_still (raster_number X.sides q) (of_object X s f h q g.0).0 (apart q g.0 n) (subst (λ n. IsAhead f.distances f.passed (raster_number n q)) st.sides g.1)),
+                (ahead_still (raster_number X.sides q) (of_object X s f h q g.0).0 (apart q g.0 n)
+                (subst (λ n. IsAhead f.distances f.passed (raster_number n q)) st.sides g.1)),
           )),
           λ o. less_before q n ∙ (h.rest.points_are q).1 (o.0, omega (arith, o.1)),
         )
@@ -198,7 +207,8 @@ module _ (X : Picture) (s : Stage) (f : Reach) (h : IsFrontOf X s f) (i : ℕ) (
         less_before : (q : Point) → q ≢ raster_point X.sides i → at (without h.rest.points (raster_point X.sides i)) q ≡ at h.rest.points q
         less_before q n = value_elsewhere h.rest.points (raster_point X.sides i) q false (object_in_box h.rest.points (raster_point X.sides i) in_points) n
 
-    pub front_met : (reached' : Picture) → reached' ≡ with_value f.reached (raster_point X.sides i) true → (new : Key → Bool) (b : Bool) → (b ≡ true) ↔ IsSimple s.left (raster_point X.sides i)
+    pub front_met : (reached' : Picture) → reached' ≡ with_value f.reached (raster_point X.sides i) true → (new : Key → Bool) (b : Bool)
+        → (b ≡ true) ↔ IsSimple s.left (raster_point X.sides i)
         → Put f.keys new (key_at f.distances i) b → (n : ℕ) → n + 1 ≡ f.ahead
         → IsFrontOf X s (record { reached = reached'; distances = f.distances; keys = new; passed = f.passed + 1; ahead = n })
     front_met reached' e new b is put n c = rw e

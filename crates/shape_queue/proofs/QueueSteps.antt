@@ -1,6 +1,7 @@
 -- The keys of a queue while a rank is put into its set or taken out, and the least of them.
 -- Laws over keys and lists alone.
-use Rattle.std.proofs.Common.{◌≡◌, ◌⊎◌, inl, inr, ℕ, ◌*◌, ◌<◌, ◌≤◌, Bool, true, false, not, cond, eqb, ltb, List, length, replicate, set, get_or, slice_index, refl, sym, ◌∙◌, ap, subst, arith, Option}
+use Rattle.std.proofs.Common.{◌≡◌, ◌⊎◌, inl, inr, ℕ, ◌*◌, ◌<◌, ◌≤◌, Bool, true, false, not, cond, eqb, ltb, List, length, replicate, set, get_or, slice_index}
+use Rattle.std.proofs.Common.{refl, sym, ◌∙◌, ap, subst, arith, Option}
 use Rattle.std.specs.Prelude.{◌&&◌, ◌↔◌, None, Some, MatchOption, IfSome, is_none}
 use Rattle.std.proofs.lemmas.Bool.{eqb-true, eq-eqb, ltb-true, lt-ltb}
 use Rattle.std.proofs.lemmas.List.{length-replicate, get_or-replicate, length-set, get_or-set_same, get_or-set_other}
@@ -75,7 +76,8 @@ unfolding has
 others q new i b l p k f = elim (ℕ_discrete k.place i) [
   | yes e ↦ (
       let z : eqb k.distance (slice_index q.distances k.place) ≡ false = by_value (eqb k.distance (slice_index q.distances k.place)) (λ t.
-      let s = same_key (key_at q.distances i) k (ap (slice_index q.distances) (sym e) ∙ sym (eqb-true k.distance (slice_index q.distances k.place) t)) (sym e) in
+      let s = same_key (key_at q.distances i) k (ap (slice_index q.distances) (sym e) ∙ sym (eqb-true k.distance (slice_index q.distances k.place) t)) (sym e)
+      in
       let y : true ≡ false = sym (at_itself (key_at q.distances i)) ∙ (ap (is_at (key_cmp (key_at q.distances i))) s ∙ f) in
       cc) in
       rw z refl)
@@ -121,7 +123,8 @@ module _ (q : Queued) {r : ℕ} {key : Key} (t : HasKey q.distances r key) where
 pub none_queued : (ds waiting : List ℕ) → ((r : ℕ) → In waiting r → ⊥) → AreQueued ds waiting (replicate (length ds) false)
 none_queued ds waiting none = record {
   filled = length-replicate (length ds) false;
-  each = λ i l. get_or-replicate (length ds) i false false l ∙ sym (by_value (is_in waiting (rank_in ds i)) (λ t. none (rank_in ds i) (eqb-true (bit_of waiting (rank_in ds i)) 1 t)));
+  each = λ i l. get_or-replicate (length ds) i false false l
+      ∙ sym (by_value (is_in waiting (rank_in ds i)) (λ t. none (rank_in ds i) (eqb-true (bit_of waiting (rank_in ds i)) 1 t)));
 }
 
 -- the parts of a queue when the key is put in or taken out by its rank
@@ -164,14 +167,16 @@ module _ {ds : List ℕ} {spots : Held Spot} {first : ℕ} {keys : List Key} {wa
 -- the key with the least rank that waits
 module _ (q : Queued) {r : ℕ} {key : Key} (t : HasKey q.distances r key) (least : IsLeast q.waiting r) where
   pub least_has : has q key ≡ true
-  least_has = ap (has q) (key_is q t) ∙ has_place q key.place t.inside ∙ ap (λ x. eqb (bit_of q.waiting x) 1) t.ranked ∙ eq-eqb (bit_of q.waiting r) 1 least.there
+  least_has = ap (has q) (key_is q t) ∙ has_place q key.place t.inside ∙ ap (λ x. eqb (bit_of q.waiting x) 1) t.ranked
+      ∙ eq-eqb (bit_of q.waiting r) 1 least.there
 
   pub least_key : IsLeastKey (has q) key
   least_key k w =
       let s = has_tells q k w in
       let a = least.least (rank_in q.distances k.place) s.waits in
       not_greater key k (λ o.
-      let before : Precedes q.distances k.place key.place = subst (λ d. (d < slice_index q.distances key.place) ⊎ ((d ≡ slice_index q.distances key.place) × (k.place < key.place))) s.same
+      let before : Precedes q.distances k.place key.place =
+      subst (λ d. (d < slice_index q.distances key.place) ⊎ ((d ≡ slice_index q.distances key.place) × (k.place < key.place))) s.same
       (subst (λ d. (k.distance < d) ⊎ ((k.distance ≡ d) × (k.place < key.place))) t.same o) in
       let e = rank_rises q.distances k.place key.place s.inside before in
       omega (arith, a, e, t.ranked))

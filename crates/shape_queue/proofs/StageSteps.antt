@@ -1,6 +1,7 @@
 -- The queue and the stage of a thinning: its least key is the next point, and how both go on when that is deleted or marked.
 -- Laws over pictures, stages and keys alone.
-use Rattle.std.proofs.Common.{◌≡◌, ◌≢◌, ◌⊎◌, inl, inr, ℕ, zero, suc, ◌<◌, ◌≤◌, Bool, true, false, List, [], ◌∷◌, length, get_or, slice_index, refl, sym, ◌∙◌, ap, subst, arith}
+use Rattle.std.proofs.Common.{◌≡◌, ◌≢◌, ◌⊎◌, inl, inr, ℕ, zero, suc, ◌<◌, ◌≤◌, Bool, true, false, List, [], ◌∷◌, length, get_or, slice_index, refl, sym, ◌∙◌}
+use Rattle.std.proofs.Common.{ap, subst, arith}
 use Rattle.std.specs.Prelude.{IsTrue, Contains}
 use Rattle.std.specs.Ordering.{is_gt, nat_cmp}
 use Rattle.std.specs.declared.cmp.Ordering.TheVariants.{Less}
@@ -38,7 +39,8 @@ nat_less : (a b : ℕ) → a < b → nat_cmp a b ≡ Less
 nat_less a b l = grind (arith, nat_tests)
 
 -- the point of the lower place stands before that of the higher
-in_order : (sides : List ℕ) (i j : ℕ) → i < box_count sides → j < box_count sides → i ≤ j → Before (raster_point sides i) (raster_point sides j) ⊎ (raster_point sides i ≡ raster_point sides j)
+in_order : (sides : List ℕ) (i j : ℕ) → i < box_count sides → j < box_count sides → i ≤ j → Before (raster_point sides i) (raster_point sides j)
+    ⊎ (raster_point sides i ≡ raster_point sides j)
 in_order sides i j a b l = elim (ℕ_discrete i j) [
   | yes e ↦ inr (ap (raster_point sides) e)
   | no n ↦ inl (
@@ -57,7 +59,8 @@ module _ (X : Picture) (s : Stage) (f : Reach) (h : IsFrontOf X s f) where
       (raster_below X.sides q b, raster_point-raster_number X.sides q b)
 
   -- a candidate is ahead, or waits
-  candidate_of : (q : Point) → IsCandidate s q → (IsAhead f.distances f.passed (raster_number X.sides q) → ⊥) → MayBeTaken X.sides s.left f.reached (raster_number X.sides q)
+  candidate_of : (q : Point) → IsCandidate s q → (IsAhead f.distances f.passed (raster_number X.sides q) → ⊥)
+      → MayBeTaken X.sides s.left f.reached (raster_number X.sides q)
   candidate_of q c n =
       let e = sym (of_object q c.object).1 in
       (subst (Object f.reached) e ((st.reached_is q).1 (c.object, c.unmarked, omega (arith, n))), subst (IsSimple s.left) e c.simple)
@@ -117,16 +120,19 @@ module _ (X : Picture) (s : Stage) (f : Reach) (h : IsFrontOf X s f) where
 
     -- the least key comes before each place that is ahead, and before each that may be taken
     key_first : ((q : Key) → f.keys q ≡ true → is_gt (key_cmp k q) ≡ false) → (q : Point) → IsCandidate s q
-        → (k.distance < slice_index f.distances (raster_number X.sides q)) ⊎ ((k.distance ≡ slice_index f.distances (raster_number X.sides q)) × (k.place ≤ raster_number X.sides q))
+        → (k.distance < slice_index f.distances (raster_number X.sides q))
+        ⊎ ((k.distance ≡ slice_index f.distances (raster_number X.sides q)) × (k.place ≤ raster_number X.sides q))
     key_first least q c =
         let i = raster_number X.sides q in
         let o = of_object q c.object in
         elim (cases_lt (rank_in f.distances i) f.passed) [
-          | inl l ↦ taken_least X.sides s.left f.reached f.distances (IsAhead f.distances f.passed) f.keys h.waits k there here least i o.0 (λ a. omega arith) (candidate_of q c (λ a. omega arith))
+          | inl l ↦ taken_least X.sides s.left f.reached f.distances (IsAhead f.distances f.passed) f.keys h.waits k there here least i o.0 (λ a. omega arith)
+              (candidate_of q c (λ a. omega arith))
           | inr m ↦ ahead_later i o.0 m
         ]
       where
-        ahead_later : (i : ℕ) → i < box_count X.sides → IsAhead f.distances f.passed i → (k.distance < slice_index f.distances i) ⊎ ((k.distance ≡ slice_index f.distances i) × (k.place ≤ i))
+        ahead_later : (i : ℕ) → i < box_count X.sides → IsAhead f.distances f.passed i → (k.distance < slice_index f.distances i)
+            ⊎ ((k.distance ≡ slice_index f.distances i) × (k.place ≤ i))
         ahead_later i l a =
             let r : rank_in f.distances k.place < rank_in f.distances i = (let g = here in omega (arith, g, a)) in
             later (rank_orders f.distances k.place i (omega (arith, taken.0, st.listed)) (omega (arith, st.listed)) r)
@@ -145,12 +151,15 @@ module _ (X : Picture) (s : Stage) (f : Reach) (h : IsFrontOf X s f) where
       neighbours = e;
       least = λ q d c g.
           let o = of_object q c.object in
-          let same : slice_index f.distances (raster_number X.sides q) ≡ d = one_distance X q (slice_index f.distances (raster_number X.sides q)) d (st.distance q c.object) g in
+          let same : slice_index f.distances (raster_number X.sides q) ≡ d = one_distance X q (slice_index f.distances (raster_number X.sides q)) d
+          (st.distance q c.object) g in
           by_order q d o.0 o.1 same (key_first least q c);
     }
       where
-        by_order : (q : Point) (d : ℕ) → raster_number X.sides q < box_count X.sides → raster_point X.sides (raster_number X.sides q) ≡ q → slice_index f.distances (raster_number X.sides q) ≡ d
-            → (k.distance < slice_index f.distances (raster_number X.sides q)) ⊎ ((k.distance ≡ slice_index f.distances (raster_number X.sides q)) × (k.place ≤ raster_number X.sides q))
+        by_order : (q : Point) (d : ℕ) → raster_number X.sides q < box_count X.sides → raster_point X.sides (raster_number X.sides q) ≡ q
+            → slice_index f.distances (raster_number X.sides q) ≡ d
+            → (k.distance < slice_index f.distances (raster_number X.sides q))
+            ⊎ ((k.distance ≡ slice_index f.distances (raster_number X.sides q)) × (k.place ≤ raster_number X.sides q))
             → (k.distance < d) ⊎ ((k.distance ≡ d) × (Before (raster_point X.sides k.place) q ⊎ (raster_point X.sides k.place ≡ q)))
         by_order q d l same e (inl g) = inl (omega arith)
         by_order q d l same e (inr g) = inr (
@@ -213,7 +222,8 @@ module _ (X : Picture) (s : Stage) (f : Reach) (h : IsFrontOf X s f) where
       sides = h.rest.sides;
       filled = h.rest.filled;
       points_are = λ q. (
-        (λ o. let g = (h.rest.points_are q).0 o in (left_stays q (away_ahead q (subst (λ n. IsAhead f.distances f.passed (raster_number n q)) st.sides g.1)) ∙ g.0, g.1)),
+        (λ o. let g = (h.rest.points_are q).0 o in
+            (left_stays q (away_ahead q (subst (λ n. IsAhead f.distances f.passed (raster_number n q)) st.sides g.1)) ∙ g.0, g.1)),
         λ o. (h.rest.points_are q).1 (sym (left_stays q (other q o.0)) ∙ o.0, o.1),
       );
       counted = h.rest.counted;
@@ -235,7 +245,8 @@ module _ (X : Picture) (s : Stage) (f : Reach) (h : IsFrontOf X s f) where
         (λ o. let g = (st.reached_is q).0 (was_reached q o) in (g.0, not_now q (not_that q o) g.1, g.2)),
         λ o. still_reached q (λ e. o.1 (0, omega arith, sym e)) ((st.reached_is q).1 (o.0, (λ c. o.1 (later c)), o.2)),
       );
-      unmarked = λ q a. not_now q (λ e. let p = subst (λ r. IsPassed f.distances f.passed (raster_number X.sides r)) (sym e) here_passed in omega (arith, p, a)) (st.unmarked q a);
+      unmarked = λ q a. not_now q (λ e. let p = subst (λ r. IsPassed f.distances f.passed (raster_number X.sides r)) (sym e) here_passed in omega (arith, p, a))
+          (st.unmarked q a);
       distance = st.distance;
       some = st.some;
     }
@@ -254,7 +265,8 @@ module _ (X : Picture) (s : Stage) (f : Reach) (h : IsFrontOf X s f) where
     gone o = not_that (raster_point X.sides k.place) o refl
 
     -- the queue after a mark
-    pub marked_waits : (new : Key → Bool) → Put f.keys new k false → Waits X.sides s.left (without f.reached (raster_point X.sides k.place)) f.distances (IsAhead f.distances f.passed) new
+    pub marked_waits : (new : Key → Bool) → Put f.keys new k false
+        → Waits X.sides s.left (without f.reached (raster_point X.sides k.place)) f.distances (IsAhead f.distances f.passed) new
     marked_waits new put = taken_out X.sides s.left f.reached f.distances (IsAhead f.distances f.passed) f.keys h.waits k there here
         s.left (without f.reached (raster_point X.sides k.place)) (IsAhead f.distances f.passed) new put (λ i a. a)
         (λ i n l o. still_reached (raster_point X.sides i) (away i n l) o) gone
@@ -262,9 +274,12 @@ module _ (X : Picture) (s : Stage) (f : Reach) (h : IsFrontOf X s f) where
 
     -- the queue after a deletion: the near neighbours are to be asked anew
     pub deleted_waits : (new : Key → Bool) → Put f.keys new k false → Waits X.sides (without s.left (raster_point X.sides k.place))
-        (without f.reached (raster_point X.sides k.place)) f.distances (λ i. IsAhead f.distances f.passed i ⊎ Near (raster_point X.sides k.place) (raster_point X.sides i)) new
-    deleted_waits new put = taken_out X.sides s.left f.reached f.distances (IsAhead f.distances f.passed) f.keys h.waits k there here (without s.left (raster_point X.sides k.place))
-        (without f.reached (raster_point X.sides k.place)) (λ i. IsAhead f.distances f.passed i ⊎ Near (raster_point X.sides k.place) (raster_point X.sides i)) new put (λ i a. inl a)
+        (without f.reached (raster_point X.sides k.place)) f.distances
+        (λ i. IsAhead f.distances f.passed i ⊎ Near (raster_point X.sides k.place) (raster_point X.sides i)) new
+    deleted_waits new put = taken_out X.sides s.left f.reached f.distances (IsAhead f.distances f.passed) f.keys h.waits k there here
+        (without s.left (raster_point X.sides k.place))
+        (without f.reached (raster_point X.sides k.place)) (λ i. IsAhead f.distances f.passed i ⊎ Near (raster_point X.sides k.place) (raster_point X.sides i))
+        new put (λ i a. inl a)
         (λ i n l o. still_reached (raster_point X.sides i) (away i n l) o) gone
         (λ i n l g. (
           (λ m. (
@@ -272,7 +287,11 @@ module _ (X : Picture) (s : Stage) (f : Reach) (h : IsFrontOf X s f) where
             simple_alike s.left (without s.left (raster_point X.sides k.place))
                 (raster_point X.sides i) refl (λ q o. sym (same i (λ z. g (inr z)) q o)) m.1,
           )),
-          λ m. (was_reached (raster_point X.sides i) m.0, simple_alike (without s.left (raster_point X.sides k.place)) s.left (raster_point X.sides i) refl (same i (λ z. g (inr z))) m.1),
+          λ m. (
+            was_reached (raster_point X.sides i) m.0,
+            simple_alike (without s.left (raster_point X.sides k.place)) s.left (raster_point X.sides i) refl
+                (same i (λ z. g (inr z))) m.1,
+          ),
         ))
       where
         same : (i : ℕ) → (Near (raster_point X.sides k.place) (raster_point X.sides i) → ⊥) → (q : Point) → Near (raster_point X.sides i) q

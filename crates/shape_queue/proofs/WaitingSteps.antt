@@ -1,6 +1,7 @@
 -- The queue while places are looked at, one after the other, and when its least key is taken.
 -- Laws over pictures and keys alone; how the queue is kept does not matter here.
-use Rattle.std.proofs.Common.{◌≡◌, ◌≢◌, ◌⊎◌, inl, inr, ℕ, ◌<◌, ◌≤◌, ◌↔◌, Bool, true, false, cond, List, slice_index, Option, None, Some, MatchOption, IfSome, sym, ◌∙◌, ap, subst}
+use Rattle.std.proofs.Common.{◌≡◌, ◌≢◌, ◌⊎◌, inl, inr, ℕ, ◌<◌, ◌≤◌, ◌↔◌, Bool, true, false, cond, List, slice_index, Option, None, Some, MatchOption, IfSome}
+use Rattle.std.proofs.Common.{sym, ◌∙◌, ap, subst}
 use Rattle.std.specs.Ordering.{is_gt}
 use Rattle.std.specs.BTreeMap.{is_at}
 use native.Mathlib.Decide.{ℕ_discrete}
@@ -24,7 +25,8 @@ put_there old new key k b h n = elim (by_key key k) [
 ]
 
 -- the key that was taken out of the queue as its least one is the least one
-pub popped : (result : Option Key) (A : Type 0) (old new : Key → Bool) → MatchOption result ((k : Key) → old k ≡ false) (λ key. old key ≡ true) → IfSome result (λ key. IsLeastKey old key)
+pub popped : (result : Option Key) (A : Type 0) (old new : Key → Bool) → MatchOption result ((k : Key) → old k ≡ false) (λ key. old key ≡ true)
+    → IfSome result (λ key. IsLeastKey old key)
     → MatchOption result A (λ key. Put old new key false) → (k : Key) → old k ≡ true → IsLeastKey old k → Put old new k false
 popped None A old new none _ _ k there _ = absurd (let f : true ≡ false = sym there ∙ none k in cc)
 popped (Some key) A old new is least put k there first = subst (λ k. Put old new k false) (one_least old key k is there least first) put
@@ -32,9 +34,11 @@ popped (Some key) A old new is least put k there first = subst (λ k. Put old ne
 other_place : (distances : List ℕ) (i j : ℕ) → (j ≡ i → ⊥) → key_at distances i ≡ key_at distances j → ⊥
 other_place distances i j n e = n (sym (ap (λ (k : Key). k.place) e))
 
-module _ (sides : List ℕ) (left reached : Picture) (distances : List ℕ) (later later' : ℕ → Type 0) (old new : Key → Bool) (w : Waits sides left reached distances later old) where
+module _ (sides : List ℕ) (left reached : Picture) (distances : List ℕ) (later later' : ℕ → Type 0) (old new : Key → Bool)
+    (w : Waits sides left reached distances later old) where
   -- a place is looked at
-  pub settled_more : (i : ℕ) (b : Bool) → i < box_count sides → Object reached (raster_point sides i) → (b ≡ true) ↔ MayBeTaken sides left reached i → Put old new (key_at distances i) b
+  pub settled_more : (i : ℕ) (b : Bool) → i < box_count sides → Object reached (raster_point sides i) → (b ≡ true) ↔ MayBeTaken sides left reached i
+      → Put old new (key_at distances i) b
       → ((j : ℕ) → j < box_count sides → j ≢ i → later j → later' j) → Waits sides left reached distances later' new
   settled_more i b l o is put less = record {
     proper = λ k h. elim (by_key (key_at distances i) k) [
@@ -57,7 +61,8 @@ module _ (sides : List ℕ) (left reached : Picture) (distances : List ℕ) (lat
   }
 
   -- a point is passed that is not free
-  pub passed_more : (q : Point) → (Object reached q → ⊥) → ((j : ℕ) → j < box_count sides → raster_point sides j ≢ q → later j → later' j) → Waits sides left reached distances later' old
+  pub passed_more : (q : Point) → (Object reached q → ⊥) → ((j : ℕ) → j < box_count sides → raster_point sides j ≢ q → later j → later' j)
+      → Waits sides left reached distances later' old
   passed_more q closed less = record {
     proper = w.proper;
     settled = λ j m n. elim (same_point (raster_point sides j) q) [
@@ -71,7 +76,8 @@ module _ (sides : List ℕ) (left reached : Picture) (distances : List ℕ) (lat
 
   -- a place is reached that was to be looked at later
   pub reached_more : (i : ℕ) (reached' : Picture) → later i → ((q : Point) → Object reached q → Object reached' q)
-      → ((j : ℕ) → j ≢ i → j < box_count sides → Object reached' (raster_point sides j) → Object reached (raster_point sides j)) → Waits sides left reached' distances later old
+      → ((j : ℕ) → j ≢ i → j < box_count sides → Object reached' (raster_point sides j) → Object reached (raster_point sides j))
+      → Waits sides left reached' distances later old
   reached_more i reached' l more less = record {
     proper = λ k h. let p = w.proper k h in (p.0, more (raster_point sides k.place) p.1, p.2);
     settled = λ j m n.
@@ -87,7 +93,8 @@ waits_less sides left reached distances later later' keys less w = record { prop
 
 -- ---- the least key
 
-module _ (sides : List ℕ) (left reached : Picture) (distances : List ℕ) (before : ℕ → Type 0) (old : Key → Bool) (w : Waits sides left reached distances before old)
+module _ (sides : List ℕ) (left reached : Picture) (distances : List ℕ) (before : ℕ → Type 0) (old : Key → Bool)
+    (w : Waits sides left reached distances before old)
     (k : Key) (there : old k ≡ true) (here : before k.place → ⊥) where
   pub taken_is : (k.place < box_count sides) × MayBeTaken sides left reached k.place × (k.distance ≡ slice_index distances k.place)
   taken_is =
@@ -124,7 +131,8 @@ module _ (sides : List ℕ) (left reached : Picture) (distances : List ℕ) (bef
         λ c. absurd (gone (subst (λ j. Object reached' (raster_point sides j)) e c.0)),
       )
       | no e ↦ (
-          let same : new (key_at distances i) ≡ old (key_at distances i) = put_there old new k (key_at distances i) false put (λ q. e (sym (ap (λ (k : Key). k.place) q))) in
+          let same : new (key_at distances i) ≡ old (key_at distances i) = put_there old new k (key_at distances i) false put
+          (λ q. e (sym (ap (λ (k : Key). k.place) q))) in
           let s = w.settled i m (λ z. n (more i z)) in
           let a = alike i e m n in
           ((λ h. a.0 (s.0 (sym same ∙ h))), λ c. same ∙ s.1 (a.1 c)))

@@ -27,7 +27,8 @@ IsQueue passed left reached distances has = Waits left.sides left reached distan
 
 -- the queue is right but for the near neighbours of p, which are still to be looked at
 abbrev pub IsQueueBut : Point → ℕ → Picture → Picture → List ℕ → (Key → Bool) → Type 0
-IsQueueBut p passed left reached distances has = Waits left.sides left reached distances (λ i. IsAhead distances passed i ⊎ Near p (raster_point left.sides i)) has
+IsQueueBut p passed left reached distances has = Waits left.sides left reached distances (λ i. IsAhead distances passed i ⊎ Near p (raster_point left.sides i))
+    has
 
 -- the key is there or not, as b says, and all others as before
 abbrev pub Put : (Key → Bool) → (Key → Bool) → Key → Bool → Type 0

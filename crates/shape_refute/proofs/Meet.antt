@@ -30,7 +30,8 @@ unit_other (suc t) zero h = refl
 unit_other (suc t) (suc k) h = unit_other t k (λ e. h (ap suc e))
 
 -- the coordinates of the two sums
-pub coordinate-points : (f : ℕ → Point) (g : ℕ → ℤ) (k : ℕ) → ((i : ℕ) → coordinate (f i) k ≡ g i) → (shares : List Share) → coordinate (weighted_points f shares) k ≡ shares_sum g shares
+pub coordinate-points : (f : ℕ → Point) (g : ℕ → ℤ) (k : ℕ) → ((i : ℕ) → coordinate (f i) k ≡ g i) → (shares : List Share)
+    → coordinate (weighted_points f shares) k ≡ shares_sum g shares
 coordinate-points f g k h [] = refl
 coordinate-points f g k h (s ∷ shares) =
     coordinate-moved (times (pos s.weight) (f s.place)) (weighted_points f shares) k
@@ -67,26 +68,32 @@ length-moved-most d (x ∷ p) [] h l = h
 length-moved-most (suc d) (x ∷ p) (y ∷ v) h l = omega (arith, length-moved-most d p v (omega arith) (omega arith))
 length-moved-most zero (x ∷ p) (y ∷ v) h l = absurd (omega arith)
 
-pub length-points-most : (d : ℕ) (f : ℕ → Point) (shares : List Share) → AllByRecursion (λ s. length (f s.place) ≡ d) shares → length (weighted_points f shares) ≤ d
+pub length-points-most : (d : ℕ) (f : ℕ → Point) (shares : List Share) → AllByRecursion (λ s. length (f s.place) ≡ d) shares
+    → length (weighted_points f shares) ≤ d
 length-points-most d f [] h = omega arith
 length-points-most d f (s ∷ shares) h =
-    length-moved-most d (times (pos s.weight) (f s.place)) (weighted_points f shares) (omega (arith, length-times (pos s.weight) (f s.place), h.0)) (length-points-most d f shares h.1)
+    length-moved-most d (times (pos s.weight) (f s.place)) (weighted_points f shares) (omega (arith, length-times (pos s.weight) (f s.place), h.0))
+    (length-points-most d f shares h.1)
 
-pub length-points : (d : ℕ) (f : ℕ → Point) (shares : List Share) → 1 ≤ total_weight shares → AllByRecursion (λ s. length (f s.place) ≡ d) shares → length (weighted_points f shares) ≡ d
+pub length-points : (d : ℕ) (f : ℕ → Point) (shares : List Share) → 1 ≤ total_weight shares → AllByRecursion (λ s. length (f s.place) ≡ d) shares
+    → length (weighted_points f shares) ≡ d
 length-points d f [] o h = absurd (omega arith)
 length-points d f (s ∷ shares) o h =
-    length-moved d (times (pos s.weight) (f s.place)) (weighted_points f shares) (length-times (pos s.weight) (f s.place) ∙ h.0) (length-points-most d f shares h.1)
+    length-moved d (times (pos s.weight) (f s.place)) (weighted_points f shares) (length-times (pos s.weight) (f s.place) ∙ h.0)
+    (length-points-most d f shares h.1)
 
 length-step : (d t : ℕ) (s : Step) → t < d → IsStepOf d t s → length (step_of t s) ≤ d
 length-step d t Step.Up l h = omega (arith, length-along t (pos 1))
 length-step d t (Step.Plus u) l h = length-moved-most d (unit t) (unit u) (omega (arith, length-along t (pos 1))) (omega (arith, length-along u (pos 1), h.0))
 length-step d t (Step.Minus u) l h =
-    length-moved-most d (unit t) (times (negsuc 0) (unit u)) (omega (arith, length-along t (pos 1))) (omega (arith, length-times (negsuc 0) (unit u), length-along u (pos 1), h.0))
+    length-moved-most d (unit t) (times (negsuc 0) (unit u)) (omega (arith, length-along t (pos 1)))
+    (omega (arith, length-times (negsuc 0) (unit u), length-along u (pos 1), h.0))
 
 pub length-steps : (d t : ℕ) → t < d → (shares : List StepShare) → AllByRecursion (λ s. IsStepOf d t s.step) shares → length (weighted_steps t shares) ≤ d
 length-steps d t l [] h = omega arith
 length-steps d t l (s ∷ shares) h =
-    length-moved-most d (times (pos s.weight) (step_of t s.step)) (weighted_steps t shares) (omega (arith, length-times (pos s.weight) (step_of t s.step), length-step d t s.step l h.0)) (length-steps d t l shares h.1)
+    length-moved-most d (times (pos s.weight) (step_of t s.step)) (weighted_steps t shares)
+    (omega (arith, length-times (pos s.weight) (step_of t s.step), length-step d t s.step l h.0)) (length-steps d t l shares h.1)
 
 -- points of d axes are equal where their coordinates are
 pub same_point : (d : ℕ) (p q : Point) → length p ≡ d → length q ≡ d → ((k : ℕ) → k < d → coordinate p k ≡ coordinate q k) → p ≡ q

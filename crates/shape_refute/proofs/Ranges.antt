@@ -41,12 +41,14 @@ floor_pos n s some = record { low = low; high = high }
 abbrev pub IsNarrowed : ℤ → ℤ → ℤ → ℤ → ℤ → ℤ → Type 0
 IsNarrowed low high side n l h = (a : ℤ) → IsIn l h a ↔ (IsIn low high a × ((a *ℤ side) ≤ℤ n))
 
-pub narrow_up : (low high side n q l h : ℤ) → pos 0 <ℤ side → IsFloor n side q → ((a : ℤ) → IsIn l h a ↔ (IsIn low high a × (a ≤ℤ q))) → IsNarrowed low high side n l h
+pub narrow_up : (low high side n q l h : ℤ) → pos 0 <ℤ side → IsFloor n side q → ((a : ℤ) → IsIn l h a ↔ (IsIn low high a × (a ≤ℤ q)))
+    → IsNarrowed low high side n l h
 narrow_up low high side n q l h some f g a =
     let e = floor_is n side q (omega (arith, ints, some)) f a in
     ((λ i. let x = (g a).0 i in (x.0, e.1 x.1)), λ x. (g a).1 (x.0, e.0 x.1))
 
-pub narrow_down : (low high side m n q v l h : ℤ) → side <ℤ pos 0 → m ≡ neg_ℤ side → v ≡ neg_ℤ q → IsFloor n m q → ((a : ℤ) → IsIn l h a ↔ (IsIn low high a × (v ≤ℤ a))) → IsNarrowed low high side n l h
+pub narrow_down : (low high side m n q v l h : ℤ) → side <ℤ pos 0 → m ≡ neg_ℤ side → v ≡ neg_ℤ q → IsFloor n m q
+    → ((a : ℤ) → IsIn l h a ↔ (IsIn low high a × (v ≤ℤ a))) → IsNarrowed low high side n l h
 narrow_down low high side m n q v l h some ms vq f g a =
     let e = floor_is n m q (omega (arith, ints, some, ms)) f (neg_ℤ a) in
     let k = ap (λ (z : ℤ). neg_ℤ a *ℤ z) ms in
@@ -65,7 +67,8 @@ narrow_none low high side n p q l a = (
 
 -- ---- slopes with a denominator
 
-module _ (b s1 r1 s2 r2 : ℤ) (some : pos 1 ≤ℤ b) (n1 n2 : ℤ) (e1 : n1 ≡ b *ℤ r1 -ℤ pos 1) (e2 : n2 ≡ b *ℤ r2 -ℤ pos 1) (l h l1 h1 l2 h2 : ℤ) (low : l ≡ neg_ℤ b) (high : h ≡ b) (f : IsNarrowed l h s1 n1 l1 h1) (g : IsNarrowed l1 h1 s2 n2 l2 h2) where
+module _ (b s1 r1 s2 r2 : ℤ) (some : pos 1 ≤ℤ b) (n1 n2 : ℤ) (e1 : n1 ≡ b *ℤ r1 -ℤ pos 1) (e2 : n2 ≡ b *ℤ r2 -ℤ pos 1) (l h l1 h1 l2 h2 : ℤ) (low : l ≡ neg_ℤ b)
+    (high : h ≡ b) (f : IsNarrowed l h s1 n1 l1 h1) (g : IsNarrowed l1 h1 s2 n2 l2 h2) where
   pub slope_in : l2 ≤ℤ h2 → (c : ℤ) × IsSlope s1 r1 s2 r2 c b
   slope_in k =
       let y = (g l2).0 (record { from = omega (arith, ints); to = k }) in
@@ -73,8 +76,17 @@ module _ (b s1 r1 s2 r2 : ℤ) (some : pos 1 ≤ℤ b) (n1 n2 : ℤ) (e1 : n1 �
       let from = x.0.from in
       let to = x.0.to in
       let p = x.1 in
-      let q = y.1 in
-      (l2, record { some = some; low = omega (arith, ints, from, low); high = omega (arith, ints, to, high); first = omega (arith, ints, p, e1); second = omega (arith, ints, q, e2) })
+      let q = y.1 in (
+        l2,
+        record {
+          some = some;
+          low = omega (arith, ints, from, low);
+          high = omega (arith, ints, to, high);
+          first = omega (arith, ints, p, e1);
+          second =
+              omega (arith, ints, q, e2);
+        },
+      )
 
   pub in_slope : ((c : ℤ) × IsSlope s1 r1 s2 r2 c b) → l2 ≤ℤ h2
   in_slope k =
@@ -93,7 +105,9 @@ module _ (b s1 r1 s2 r2 : ℤ) (some : pos 1 ≤ℤ b) (n1 n2 : ℤ) (e1 : n1 �
 pub floor_value : (n s : ℤ) (m d q : ℕ) (r : ℤ) → pos m ≡ n → pos d ≡ s → pos 1 ≤ℤ s → q ≡ m / d → r ≡ pos q → IsFloor n s r
 floor_value n s m d q r em ed some eq er =
     let k : 1 ≤ d = omega (arith, ints, ed, some) in
-    subst (λ (z : ℤ). IsFloor z s r) em (subst (λ (z : ℤ). IsFloor (pos m) z r) ed (subst (λ (z : ℤ). IsFloor (pos m) (pos d) z) (sym er) (subst (λ (z : ℕ). IsFloor (pos m) (pos d) (pos z)) (sym eq) (floor_pos m d k))))
+    subst (λ (z : ℤ). IsFloor z s r) em
+    (subst (λ (z : ℤ). IsFloor (pos m) z r) ed
+    (subst (λ (z : ℤ). IsFloor (pos m) (pos d) z) (sym er) (subst (λ (z : ℕ). IsFloor (pos m) (pos d) (pos z)) (sym eq) (floor_pos m d k))))
 
 pub floor_mirrored : (n s m q r : ℤ) → m ≡ negsuc 0 -ℤ n → r ≡ negsuc 0 -ℤ q → IsFloor m s q → IsFloor n s r
 floor_mirrored n s m q r em er h = subst (λ (z : ℤ). IsFloor n s z) (sym er) (floor_below n s q (subst (λ (z : ℤ). IsFloor z s q) em h))

@@ -44,7 +44,8 @@ pub recounted : {X Y : Type 0} (see : X → Y) (xs : List X) (n : ℕ) → n ≤
 recounted see xs n h l = length-map (take n xs) see ∙ length-take-le n xs (subst (λ k. n ≤ k) (sym l) h)
 
 -- the places are those where what is seen of them is kept
-pub refilled : {X Y : Type 0} (see : X → Y) (back : Y → X) → ((x : X) → back (see x) ≡ x) → (none : X) (xs : List X) (n : ℕ) → n ≤ 4 → length xs ≡ 4 → drop n xs ≡ replicate (4 - n) none
+pub refilled : {X Y : Type 0} (see : X → Y) (back : Y → X) → ((x : X) → back (see x) ≡ x) → (none : X) (xs : List X) (n : ℕ) → n ≤ 4 → length xs ≡ 4
+    → drop n xs ≡ replicate (4 - n) none
     → four_places back none (map see (take n xs)) ≡ xs
 refilled see back h none xs n few l e =
     ap (λ k. map back (map see (take n xs)) ++ replicate (4 - k) none) (recounted see xs n few l)

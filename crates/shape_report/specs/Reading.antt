@@ -23,6 +23,14 @@ IsFrequent word On = word ≡ first_word Kind.On
 IsFrequent word Del = word ≡ first_word Kind.Del
 IsFrequent word Other = Unit {0}
 
+-- the kinds before `face`
+abbrev pub earlier : List Kind
+earlier = Kind.Shape ∷ Kind.Parts ∷ Kind.Near ∷ Kind.Contour ∷ Kind.At ∷ Kind.Seg ∷ Kind.Least ∷ Kind.Turn ∷ Kind.Cut ∷ []
+
+-- and those from it on
+abbrev pub later : List Kind
+later = Kind.Face ∷ Kind.Patch ∷ Kind.On ∷ Kind.Off ∷ Kind.Del ∷ Kind.Tip ∷ Kind.Kept ∷ Kind.End ∷ []
+
 -- what reading the fields of a kind of line answers, where they are all words that are left
 abbrev pub ReadsKind : {P : Type 0} → ℕ → (P → List ℤ) → Kind → (words : List (List ℕ)) → Option (Line P) → Type 0
 ReadsKind d coords k words None = all_read (read_kind (table d) k words) ≡ None

@@ -3,11 +3,13 @@
 #![tactic(auto)]
 
 mod field;
+mod front;
 mod law;
 mod line;
 mod read;
 mod spell;
 
+pub use front::read_front;
 pub use law::one_spelling;
 pub use line::{Line, SeenLine};
 pub use read::read_claim;

@@ -5,13 +5,14 @@ ghost use Rattle.std.specs.Int.{w64};
 ghost use Rattle.text_terms.specs.Forms.{signed, letter, name, behind, ◌⨾◌};
 ghost use Rattle.text_terms.specs.Fields.{point, row};
 ghost use Rattle.text_terms.specs.PictureKinds.{kind_word};
-ghost use Rattle.report_terms.specs.Kinds.{Kind};
+ghost use Rattle.text_terms.specs.Tables.{kind_among};
+ghost use Rattle.report_terms.specs.Kinds.{Kind, first_word};
 ghost use Rattle.report_terms.specs.Lines as Terms;
 ghost use Rattle.report_terms.specs.Lines.{IsLineOf, spelling};
 ghost use Rattle.shape_rules.specs.Names.{word_of};
 ghost use Rattle.report_text.specs.Reading.{ReadsForm};
 ghost use Rattle.shape_report.specs.LineOf.{line_of};
-ghost use Rattle.shape_report.specs.Reading.{HasNoThird, IsFrequent, ReadsEnd, ReadsKind, ReadsFields};
+ghost use Rattle.shape_report.specs.Reading.{HasNoThird, IsFrequent, ReadsEnd, ReadsKind, ReadsFields, earlier};
 
 use crate::field::{name, number, sense};
 use crate::line::Line;
@@ -322,6 +323,38 @@ pub(crate) fn told_by(word: &[u8]) -> Frequent
     }
 }
 
+// Reads the fields of a line of one of the later kinds, of which `face` is the first.
+fn later<P: Point>(word: &[u8], words: &mut Words) -> Option<Line<P>>
+    requires { kind_among first_word earlier word.now ≡ None }
+    ensures { ReadsFields P.DIM P.coords word.now words.old result }
+{
+    if word == b"face".as_slice() {
+        return face(words);
+    }
+    if word == b"patch".as_slice() {
+        return patch(words);
+    }
+    if word == b"on".as_slice() {
+        return on(words);
+    }
+    if word == b"off".as_slice() {
+        return off(words);
+    }
+    if word == b"del".as_slice() {
+        return del(words);
+    }
+    if word == b"tip".as_slice() {
+        return tip(words);
+    }
+    if word == b"kept".as_slice() {
+        return kept(words);
+    }
+    if word == b"end".as_slice() {
+        return end(words);
+    }
+    None
+}
+
 // Reads the fields of a line of any kind, whose first word is given.
 #[inline(never)]
 fn any<P: Point>(word: &[u8], words: &mut Words) -> Option<Line<P>>
@@ -354,31 +387,7 @@ fn any<P: Point>(word: &[u8], words: &mut Words) -> Option<Line<P>>
     if word == b"cut".as_slice() {
         return cut(words);
     }
-    if word == b"face".as_slice() {
-        return face(words);
-    }
-    if word == b"patch".as_slice() {
-        return patch(words);
-    }
-    if word == b"on".as_slice() {
-        return on(words);
-    }
-    if word == b"off".as_slice() {
-        return off(words);
-    }
-    if word == b"del".as_slice() {
-        return del(words);
-    }
-    if word == b"tip".as_slice() {
-        return tip(words);
-    }
-    if word == b"kept".as_slice() {
-        return kept(words);
-    }
-    if word == b"end".as_slice() {
-        return end(words);
-    }
-    None
+    later(word, words)
 }
 
 // The same, sooner for the kinds of which reports have most lines: a word is compared with all of theirs at once.

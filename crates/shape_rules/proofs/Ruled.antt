@@ -10,7 +10,8 @@ use Rattle.shape_rules.proofs.Entries.{kept_by}
 
 module _ {R : Type 0} (means : R → Rule) where
   -- a rule that moved and means the same is the same rule
-  pub rules_same : (shelf : List (Named R)) (i : ℕ) (r w : R) → slice_get (rules_of shelf) i ≡ Some r → means w ≡ means r → rules_on means (with_rule shelf i w) ≡ rules_on means shelf
+  pub rules_same : (shelf : List (Named R)) (i : ℕ) (r w : R) → slice_get (rules_of shelf) i ≡ Some r → means w ≡ means r
+      → rules_on means (with_rule shelf i w) ≡ rules_on means shelf
   rules_same shelf i r w there same = kept_by _ shelf i r w there (λ name. λ j. record { name = name; rule = same j })
 
   -- the names are the same

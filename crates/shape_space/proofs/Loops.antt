@@ -1,6 +1,7 @@
 -- One axis more in the loops over the sides of a box.
 -- Counts and raster numbers are built from the last axis to the first, points from the first to the last.
-use Rattle.std.proofs.Common.{◌≡◌, ◌⊎◌, inl, inr, ◌+◌, ◌*◌, ◌<◌, ◌≤◌, ℕ, zero, suc, false, ℤ, pos, ◌≤ℤ◌, ◌<ℤ◌, [], ◌∷◌, ◌++◌, length, take, drop, refl, sym, ◌∙◌, arith, mul_comm}
+use Rattle.std.proofs.Common.{◌≡◌, ◌⊎◌, inl, inr, ◌+◌, ◌*◌, ◌<◌, ◌≤◌, ℕ, zero, suc, false, ℤ, pos, ◌≤ℤ◌, ◌<ℤ◌, [], ◌∷◌, ◌++◌, length, take, drop, refl, sym}
+use Rattle.std.proofs.Common.{◌∙◌, arith, mul_comm}
 use Rattle.std.specs.Prelude.{nat_abs, IsTrue}
 use Rattle.std.proofs.lemmas.Int.{ints}
 use Rattle.std.proofs.lemmas.Bool.{false_from_ne_true}
@@ -11,7 +12,8 @@ use Rattle.shape_terms.proofs.Boxes.{in_box_first, in_box_coordinate, raster_bel
 
 -- ---- counts
 
-pub box_count_step : (ns : Point) (k j n : ℕ) (r : ℤ) → k ≡ j + 1 → j < length ns → n ≡ box_count (sides_of (drop k ns)) → r ≡ coordinate ns j → n * nat_abs r ≡ box_count (sides_of (drop j ns))
+pub box_count_step : (ns : Point) (k j n : ℕ) (r : ℤ) → k ≡ j + 1 → j < length ns → n ≡ box_count (sides_of (drop k ns)) → r ≡ coordinate ns j
+    → n * nat_abs r ≡ box_count (sides_of (drop j ns))
 box_count_step ns k j n r e l h a =
     rw (h, a, e, drop_more ns j (pos 0) l) (mul_comm (box_count (sides_of (drop (j + 1) ns))) (nat_abs (coordinate ns j)))
 
@@ -20,12 +22,14 @@ fewer_points g ns zero h = omega arith
 fewer_points g [] (suc k) h = omega arith
 fewer_points g (n ∷ ns) (suc k) h =
     let one : 1 ≤ nat_abs n = abs_low n 1 (h 0 (omega arith)).0 in
-    let r : 1 * box_count (sides_of ns) ≤ nat_abs n * box_count (sides_of ns) = mul-le 1 (box_count (sides_of ns)) (nat_abs n) (box_count (sides_of ns)) one (omega arith) in
+    let r : 1 * box_count (sides_of ns) ≤ nat_abs n * box_count (sides_of ns) = mul-le 1 (box_count (sides_of ns)) (nat_abs n) (box_count (sides_of ns)) one
+    (omega arith) in
     omega (arith, fewer_points g ns k (λ i l. h (suc i) (omega arith)))
 
 -- ---- raster numbers
 
-pub raster_step : (ns p : Point) (k j i : ℕ) (r x : ℤ) → k ≡ j + 1 → j < length ns → length p ≡ length ns → i ≡ raster_number (sides_of (drop k ns)) (drop k p) → r ≡ coordinate ns j → x ≡ coordinate p j
+pub raster_step : (ns p : Point) (k j i : ℕ) (r x : ℤ) → k ≡ j + 1 → j < length ns → length p ≡ length ns → i ≡ raster_number (sides_of (drop k ns)) (drop k p)
+    → r ≡ coordinate ns j → x ≡ coordinate p j
     → i * nat_abs r + nat_abs x ≡ raster_number (sides_of (drop j ns)) (drop j p)
 raster_step ns p k j i r x e l m h a b =
     rw (h, a, b, e, drop_more ns j (pos 0) l, drop_more p j (pos 0) (omega arith))
@@ -41,7 +45,8 @@ in_box_drop [] (x ∷ p) (suc j) h = cc
 in_box_drop (n ∷ ns) [] (suc j) h = cc
 in_box_drop (n ∷ ns) (x ∷ p) (suc j) h = in_box_drop ns p j (in_box_first (nat_abs n) (sides_of ns) x p h).2
 
-pub raster_part : (greatest : ℤ) (ns p : Point) (k j i : ℕ) (r x : ℤ) → k ≡ j + 1 → j < length ns → length p ≡ length ns → i ≡ raster_number (sides_of (drop k ns)) (drop k p) → r ≡ coordinate ns j → x ≡ coordinate p j
+pub raster_part : (greatest : ℤ) (ns p : Point) (k j i : ℕ) (r x : ℤ) → k ≡ j + 1 → j < length ns → length p ≡ length ns
+    → i ≡ raster_number (sides_of (drop k ns)) (drop k p) → r ≡ coordinate ns j → x ≡ coordinate p j
     → IsTrue (in_box (sides_of ns) p) → AreSides greatest ns → i * nat_abs r + nat_abs x < box_count (sides_of ns)
 raster_part g ns p k j i r x e l m h a b ins sides =
     let s = raster_step ns p k j i r x e l m h a b in
@@ -50,13 +55,15 @@ raster_part g ns p k j i r x e l m h a b ins sides =
 
 -- ---- points
 
-pub raster_point_done : (ns p : Point) (k left i : ℕ) → length p ≡ length ns → length ns ≤ k → take k p ++ raster_point (sides_of (drop k ns)) left ≡ raster_point (sides_of ns) i → p ≡ raster_point (sides_of ns) i
+pub raster_point_done : (ns p : Point) (k left i : ℕ) → length p ≡ length ns → length ns ≤ k
+    → take k p ++ raster_point (sides_of (drop k ns)) left ≡ raster_point (sides_of ns) i → p ≡ raster_point (sides_of ns) i
 raster_point_done ns p k left i e l h =
     sym (append-nil p) ∙ rw (take_all k p (omega arith), drop_all k ns l) at h
 
 -- ---- the test of a point
 
-pub out_of_box : (greatest : ℤ) (ns p : Point) (k : ℕ) → AreSides greatest ns → k < length ns → (coordinate p k <ℤ pos 0) ⊎ (coordinate ns k ≤ℤ coordinate p k) → in_box (sides_of ns) p ≡ false
+pub out_of_box : (greatest : ℤ) (ns p : Point) (k : ℕ) → AreSides greatest ns → k < length ns → (coordinate p k <ℤ pos 0) ⊎ (coordinate ns k ≤ℤ coordinate p k)
+    → in_box (sides_of ns) p ≡ false
 out_of_box g ns p k sides l out = false_from_ne_true (in_box (sides_of ns) p) (λ h.
     let c = in_box_coordinate ns p g sides h k l in
     elim out [ inl a ↦ omega (arith, ints) | inr a ↦ omega (arith, ints) ])

@@ -34,7 +34,8 @@ pub flat_value : (a p : List ℤ) (d : ℕ) (s x y u v : ℤ) → length a ≡ 3
 flat_value a p d s x y u v la lp two eu ev ex ey es =
     rw two (rw (es, ex, ey, eu, ev) (sym (dot_flat a p la (lp ∙ two))))
 
-pub solid_value : (a p : List ℤ) (d : ℕ) (r s x y z u v w : ℤ) → length a ≡ 3 → length p ≡ d → d ≡ 3 → u ≡ coordinate p 0 → v ≡ coordinate p 1 → w ≡ coordinate p 2
+pub solid_value : (a p : List ℤ) (d : ℕ) (r s x y z u v w : ℤ) → length a ≡ 3 → length p ≡ d → d ≡ 3 → u ≡ coordinate p 0 → v ≡ coordinate p 1
+    → w ≡ coordinate p 2
     → x ≡ coordinate a 0 *ℤ u → y ≡ coordinate a 1 *ℤ v → z ≡ coordinate a 2 *ℤ w → s ≡ x +ℤ y → r ≡ s +ℤ z → r ≡ dot (take d a) p
 solid_value a p d r s x y z u v w la lp three eu ev ew ex ey ez es er =
     rw three (rw (er, es, ex, ey, ez, eu, ev, ew) (sym (dot_solid a p la (lp ∙ three))))

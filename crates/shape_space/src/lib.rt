@@ -19,7 +19,7 @@ pub use frac::Frac;
 pub use frame::squared_distance;
 pub use limits::{
     FAR, MOST_BYTES, MOST_COORDINATE, MOST_FLAT, MOST_FLAT_TRIAL, MOST_SOLID, MOST_SOLID_TRIAL,
-    MOST_WAY, are_limits,
+    MOST_SPACING, MOST_WAY, are_limits,
 };
 pub use memory::NoMemory;
 pub use point::{P2, Point};

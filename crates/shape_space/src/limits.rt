@@ -1,7 +1,7 @@
 //! The bounds of sides, coordinates and counts as the program has them: the numbers that `Limits` of the definitions names.
 //! A bound is changed in both places, and `are_limits` is refused while they differ.
 ghost use Rattle.std.specs.Prelude.{◌≡◌, pos};
-ghost use Rattle.shape_terms.specs.Limits.{most_flat, most_solid, most_bytes, most_flat_trial, most_solid_trial, most_coordinate, most_way, far};
+ghost use Rattle.shape_terms.specs.Limits.{most_flat, most_solid, most_bytes, most_flat_trial, most_solid_trial, most_spacing, most_coordinate, most_way, far};
 
 /// The greatest side of a flat picture, in pixels.
 pub const MOST_FLAT: i32 = 16384;
@@ -18,6 +18,9 @@ pub const MOST_FLAT_TRIAL: i32 = 2048;
 /// The greatest side of a solid picture that a seed gives, in voxels.
 pub const MOST_SOLID_TRIAL: i32 = 192;
 
+/// The greatest length of a voxel's side, in the unit of its spacing.
+pub const MOST_SPACING: u32 = 1000;
+
 /// The greatest coordinate of a point of a framed box, with room to spare.
 pub const MOST_COORDINATE: u32 = 20000;
 
@@ -33,6 +36,7 @@ ghost use Rattle.shape_space.specs.declared.limits.TheConstants.{
   MOST_BYTES,
   MOST_FLAT_TRIAL,
   MOST_SOLID_TRIAL,
+  MOST_SPACING,
   MOST_COORDINATE,
   MOST_WAY,
   FAR,
@@ -45,6 +49,7 @@ pub fn are_limits()
     ensures bytes { MOST_BYTES ≡ most_bytes }
     ensures flat_trial { MOST_FLAT_TRIAL ≡ pos most_flat_trial }
     ensures solid_trial { MOST_SOLID_TRIAL ≡ pos most_solid_trial }
+    ensures spacing { MOST_SPACING ≡ most_spacing }
     ensures coordinate { MOST_COORDINATE ≡ most_coordinate }
     ensures way { MOST_WAY ≡ most_way }
     ensures far { FAR ≡ far }

@@ -34,7 +34,8 @@ unfolding Apart
 apart_points p [] a h = tt
 apart_points p (v ∷ vs) a h = (apart_from vs a.1 h.0, apart_points p vs a.1 h.1)
   where
-    apart_from : (ws : List Point) → AllByRecursion (λ w. length w ≡ length p) ws → AllByRecursion (λ w. v ≢ w) ws → AllByRecursion (λ q. moved p v ≢ q) (map (moved p) ws)
+    apart_from : (ws : List Point) → AllByRecursion (λ w. length w ≡ length p) ws → AllByRecursion (λ w. v ≢ w) ws
+        → AllByRecursion (λ q. moved p v ≢ q) (map (moved p) ws)
     apart_from [] b g = tt
     apart_from (w ∷ ws) b g = ((λ e. g.0 (same_step p v w a.0 b.0 e)), apart_from ws b.1 g.1)
 

@@ -65,16 +65,20 @@ module _ (contour : List Point) where
     len = omega (arith, length-arc a b, length-arc c d);
     same = λ i m.
         let m' : i < d + 1 - c = omega (arith, length-arc c d) in
-        arc-get c d i m' ∙ (ap (λ v. point_at contour (v % length contour)) (let q : c + i ≡ a + (c - a + i) = omega arith in q) ∙ sym (arc-get a b (c - a + i) (omega arith)));
+        arc-get c d i m' ∙ (ap (λ v. point_at contour (v % length contour)) (let q : c + i ≡ a + (c - a + i) = omega arith in q)
+        ∙ sym (arc-get a b (c - a + i) (omega arith)));
   }
 
-  round : (k b : ℕ) → map (λ i. point_at contour (i % length contour)) (range_with_len (b + length contour) k) ≡ map (λ i. point_at contour (i % length contour)) (range_with_len b k)
+  round : (k b : ℕ) → map (λ i. point_at contour (i % length contour)) (range_with_len (b + length contour) k)
+      ≡ map (λ i. point_at contour (i % length contour)) (range_with_len b k)
   round zero b = refl
   round (suc k) b =
-      let h : point_at contour ((b + length contour) % length contour) ≡ point_at contour (b % length contour) = ap (point_at contour) (add-mod_right b (length contour)) in
+      let h : point_at contour ((b + length contour) % length contour) ≡ point_at contour (b % length contour) =
+      ap (point_at contour) (add-mod_right b (length contour)) in
       let q : b + length contour + 1 ≡ b + 1 + length contour = omega arith in
       let t = ap (λ v. map (λ i. point_at contour (i % length contour)) (range_with_len v k)) q ∙ round k (b + 1) in
       λ j. h j ∷ t j
 
   pub arc-round : (b e : ℕ) → arc contour (b + length contour) (e + length contour) ≡ arc contour b e
-  arc-round b e = ap (λ k. map (λ i. point_at contour (i % length contour)) (range_with_len (b + length contour) k)) (let q : e + length contour + 1 - (b + length contour) ≡ e + 1 - b = omega arith in q) ∙ round (e + 1 - b) b
+  arc-round b e = ap (λ k. map (λ i. point_at contour (i % length contour)) (range_with_len (b + length contour) k))
+      (let q : e + length contour + 1 - (b + length contour) ≡ e + 1 - b = omega arith in q) ∙ round (e + 1 - b) b

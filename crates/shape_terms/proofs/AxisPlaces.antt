@@ -56,7 +56,8 @@ place_below c w rows low x high l h k =
 pub same_digits : (w x x2 high high2 : ℕ) → x < w → x2 < w → x + w * high ≡ x2 + w * high2 → (high ≡ high2) × (x ≡ x2)
 same_digits w x x2 high high2 l h e = same_from_place high x high2 x2 w l h (omega (arith, e, mul_comm w high, mul_comm w high2))
 
-pub same_place : (c w low x high low2 x2 high2 : ℕ) → low < c → low2 < c → x < w → x2 < w → place c w low x high ≡ place c w low2 x2 high2 → (low ≡ low2) × (x ≡ x2) × (high ≡ high2)
+pub same_place : (c w low x high low2 x2 high2 : ℕ) → low < c → low2 < c → x < w → x2 < w → place c w low x high ≡ place c w low2 x2 high2
+    → (low ≡ low2) × (x ≡ x2) × (high ≡ high2)
 same_place c w low x high low2 x2 high2 l l2 h h2 e =
     let a = same_from_place (x + w * high) low (x2 + w * high2) low2 c l l2 (omega (arith, e, mul_comm c (x + w * high), mul_comm c (x2 + w * high2))) in
     let b = same_digits w x x2 high high2 h h2 a.0 in

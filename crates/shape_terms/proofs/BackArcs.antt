@@ -36,20 +36,23 @@ module _ (path : List Point) where
   arc_first b e l = arc-get path b e 0 (omega arith) ∙ ap (λ v. point_at path (v % length path)) (let q : b + 0 ≡ b = omega arith in q)
 
   pub arc_end : (b e : ℕ) → b ≤ e → end_point (arc path b e) ≡ point_at path (e % length path)
-  arc_end b e l = arc-get path b e (length (arc path b e) - 1) (let n = length-arc path b e in omega arith) ∙ ap (λ v. point_at path (v % length path)) (let q : b + (length (arc path b e) - 1) ≡ e = (let n = length-arc path b e in omega arith) in q)
+  arc_end b e l = arc-get path b e (length (arc path b e) - 1) (let n = length-arc path b e in omega arith)
+      ∙ ap (λ v. point_at path (v % length path)) (let q : b + (length (arc path b e) - 1) ≡ e = (let n = length-arc path b e in omega arith) in q)
 
   pub back_first : (b e : ℕ) → b ≤ e → point_at (back_arc path b e) 0 ≡ point_at path (e % length path)
   back_first b e l = back-get b e 0 (omega arith) ∙ ap (λ v. point_at path (v % length path)) (let q : e - 0 ≡ e = omega arith in q)
 
   pub back_end : (b e : ℕ) → b ≤ e → end_point (back_arc path b e) ≡ point_at path (b % length path)
-  back_end b e l = back-get b e (length (back_arc path b e) - 1) (let n = length-back b e in omega arith) ∙ ap (λ v. point_at path (v % length path)) (let q : e - (length (back_arc path b e) - 1) ≡ b = (let n = length-back b e in omega arith) in q)
+  back_end b e l = back-get b e (length (back_arc path b e) - 1) (let n = length-back b e in omega arith)
+      ∙ ap (λ v. point_at path (v % length path)) (let q : e - (length (back_arc path b e) - 1) ≡ b = (let n = length-back b e in omega arith) in q)
 
   -- an arc of one place
   pub arc_one : (b : ℕ) → arc path b b ≡ point_at path (b % length path) ∷ []
   arc_one b = ap (λ n. map (λ i. point_at path (i % length path)) (range_with_len b n)) (let q : b + 1 - b ≡ 1 = omega arith in q)
 
   pub back_one : (b : ℕ) → back_arc path b b ≡ point_at path (b % length path) ∷ []
-  back_one b = ap (λ n. map (back_point b) (range_with_len 0 n)) (let q : b + 1 - b ≡ 1 = omega arith in q) ∙ ap (λ v. point_at path (v % length path) ∷ []) (let q : b - 0 ≡ b = omega arith in q)
+  back_one b = ap (λ n. map (back_point b) (range_with_len 0 n)) (let q : b + 1 - b ≡ 1 = omega arith in q)
+      ∙ ap (λ v. point_at path (v % length path) ∷ []) (let q : b - 0 ≡ b = omega arith in q)
 
   -- the one arc is the other, backward
   pub arc_back : (b e : ℕ) → b ≤ e → IsBackward (arc path b e) (back_arc path b e)
@@ -58,7 +61,8 @@ module _ (path : List Point) where
     same = λ i k.
         let n = length-arc path b e in
         let k' : i < e + 1 - b = omega (arith, length-back b e) in
-        back-get b e i k' ∙ (ap (λ v. point_at path (v % length path)) (let q : e - i ≡ b + (length (arc path b e) - 1 - i) = omega arith in q) ∙ sym (arc-get path b e (length (arc path b e) - 1 - i) (omega arith)));
+        back-get b e i k' ∙ (ap (λ v. point_at path (v % length path)) (let q : e - i ≡ b + (length (arc path b e) - 1 - i) = omega arith in q)
+        ∙ sym (arc-get path b e (length (arc path b e) - 1 - i) (omega arith)));
   }
 
   pub back_forth : (b e : ℕ) → b ≤ e → IsBackward (back_arc path b e) (arc path b e)
@@ -67,5 +71,7 @@ module _ (path : List Point) where
     same = λ i k.
         let n = length-back b e in
         let k' : i < e + 1 - b = omega (arith, length-arc path b e) in
-        arc-get path b e i k' ∙ (ap (λ v. point_at path (v % length path)) (let q : b + i ≡ e - (length (back_arc path b e) - 1 - i) = omega arith in q) ∙ sym (back-get b e (length (back_arc path b e) - 1 - i) (omega arith)));
+        arc-get path b e i k'
+        ∙ (ap (λ v. point_at path (v % length path)) (let q : b + i ≡ e - (length (back_arc path b e) - 1 - i) = omega arith in q)
+        ∙ sym (back-get b e (length (back_arc path b e) - 1 - i) (omega arith)));
   }

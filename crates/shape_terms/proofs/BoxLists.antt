@@ -1,5 +1,6 @@
 -- The list of the points of a box, in raster order, and the object points among them.
-use Rattle.std.proofs.Common.{◌≡◌, ◌+◌, ◌*◌, ◌<◌, ◌≤◌, ℕ, zero, suc, Bool, true, false, pos, List, [], ◌∷◌, ◌++◌, length, get_or, drop, drop-cons, map, inl, inr, refl, sym, ap, ◌∙◌, arith, mul_comm}
+use Rattle.std.proofs.Common.{◌≡◌, ◌+◌, ◌*◌, ◌<◌, ◌≤◌, ℕ, zero, suc, Bool, true, false, pos, List, [], ◌∷◌, ◌++◌, length, get_or, drop, drop-cons, map, inl}
+use Rattle.std.proofs.Common.{inr, refl, sym, ap, ◌∙◌, arith, mul_comm}
 use Rattle.std.specs.Prelude.{filter, count_by, IsTrue, All}
 use Rattle.std.specs.List.{range_with_len, flat_map}
 use Rattle.std.proofs.lemmas.Bool.{cond-true, cond-false, cases_Bool}
@@ -21,22 +22,27 @@ range-append a (suc j) k =
     rw (e, f) (ap (λ l. a ∷ l) (range-append (a + 1) j k))
 
 -- a part of a row of the box
-row : (n : ℕ) (sides : List ℕ) (a j k : ℕ) → j + k ≤ n → map (λ x. pos x ∷ raster_point sides a) (range_with_len j k) ≡ map (raster_point (n ∷ sides)) (range_with_len (j + n * a) k)
+row : (n : ℕ) (sides : List ℕ) (a j k : ℕ) → j + k ≤ n
+    → map (λ x. pos x ∷ raster_point sides a) (range_with_len j k) ≡ map (raster_point (n ∷ sides)) (range_with_len (j + n * a) k)
 row n sides a j zero h = refl
 row n sides a j (suc k) h =
     let r = row n sides a (j + 1) k (omega arith) in
     let e : j + 1 + n * a ≡ j + n * a + 1 = omega arith in
-    let r2 : map (λ x. pos x ∷ raster_point sides a) (range_with_len (j + 1) k) ≡ map (raster_point (n ∷ sides)) (range_with_len (j + n * a + 1) k) = rw e at r in
+    let r2 : map (λ x. pos x ∷ raster_point sides a) (range_with_len (j + 1) k) ≡ map (raster_point (n ∷ sides)) (range_with_len (j + n * a + 1) k) =
+    rw e at r in
     rw (mod_of n j a (omega arith), div_of n j a (omega arith)) (ap (λ l. (pos j ∷ raster_point sides a) ∷ l) r2)
 
-rows : (n : ℕ) (sides : List ℕ) (a m : ℕ) → flat_map (λ p. map (λ x. pos x ∷ p) (range_with_len 0 n)) (map (raster_point sides) (range_with_len a m)) ≡ map (raster_point (n ∷ sides)) (range_with_len (n * a) (n * m))
+rows : (n : ℕ) (sides : List ℕ) (a m : ℕ) → flat_map (λ p. map (λ x. pos x ∷ p) (range_with_len 0 n)) (map (raster_point sides) (range_with_len a m))
+    ≡ map (raster_point (n ∷ sides)) (range_with_len (n * a) (n * m))
 rows n sides a zero = let e : n * 0 ≡ 0 = omega arith in rw e refl
 rows n sides a (suc m) =
     let e : n * suc m ≡ n + n * m = omega (arith, mul_comm n (suc m), mul_comm n m) in
     let f : n * (a + 1) ≡ n * a + n = omega (arith, mul_comm n (a + 1), mul_comm n a) in
     let g : 0 + n * a ≡ n * a = omega arith in
-    let first : map (λ x. pos x ∷ raster_point sides a) (range_with_len 0 n) ≡ map (raster_point (n ∷ sides)) (range_with_len (n * a) n) = rw g at (row n sides a 0 n (omega arith)) in
-    let rest : flat_map (λ p. map (λ x. pos x ∷ p) (range_with_len 0 n)) (map (raster_point sides) (range_with_len (a + 1) m)) ≡ map (raster_point (n ∷ sides)) (range_with_len (n * a + n) (n * m)) = rw f at (rows n sides (a + 1) m) in
+    let first : map (λ x. pos x ∷ raster_point sides a) (range_with_len 0 n) ≡ map (raster_point (n ∷ sides)) (range_with_len (n * a) n) =
+    rw g at (row n sides a 0 n (omega arith)) in
+    let rest : flat_map (λ p. map (λ x. pos x ∷ p) (range_with_len 0 n)) (map (raster_point sides) (range_with_len (a + 1) m)) ≡ map (raster_point (n ∷ sides))
+    (range_with_len (n * a + n) (n * m)) = rw f at (rows n sides (a + 1) m) in
     rw (e, range-append (n * a) n (n * m), map-append (raster_point (n ∷ sides)) (range_with_len (n * a) n) (range_with_len (n * a + n) (n * m)))
     (rw (first, rest) refl)
 
@@ -72,7 +78,8 @@ values_are X e = same_lists (map (at X) (box_points X.sides)) X.values (length-m
 
 -- ---- the object points
 
-pub objects_next : (X : Picture) (i : ℕ) → i < box_count X.sides → get_or X.values i false ≡ true → objects_from X i ≡ raster_point X.sides i ∷ objects_from X (i + 1)
+pub objects_next : (X : Picture) (i : ℕ) → i < box_count X.sides → get_or X.values i false ≡ true
+    → objects_from X i ≡ raster_point X.sides i ∷ objects_from X (i + 1)
 objects_next X i l t =
     let e : i + 1 ≡ suc i = omega arith in
     rw (e, drop_box_points X.sides i l) (cond-true (at X (raster_point X.sides i)) _ _ (at_raster_point X i l ∙ t))
@@ -87,8 +94,10 @@ count_map p [] = refl
 count_map p (x ∷ xs) =
     let r = count_map p xs in
     elim (cases_Bool (p x)) [
-      | inl t ↦ ap length (cond-true (p x) (x ∷ filter p xs) (filter p xs) t) ∙ ap suc r ∙ sym (ap length (cond-true (p x) (p x ∷ filter (λ b. b) (map p xs)) (filter (λ b. b) (map p xs)) t))
-      | inr f ↦ ap length (cond-false (p x) (x ∷ filter p xs) (filter p xs) f) ∙ r ∙ sym (ap length (cond-false (p x) (p x ∷ filter (λ b. b) (map p xs)) (filter (λ b. b) (map p xs)) f))
+      | inl t ↦ ap length (cond-true (p x) (x ∷ filter p xs) (filter p xs) t) ∙ ap suc r
+          ∙ sym (ap length (cond-true (p x) (p x ∷ filter (λ b. b) (map p xs)) (filter (λ b. b) (map p xs)) t))
+      | inr f ↦ ap length (cond-false (p x) (x ∷ filter p xs) (filter p xs) f) ∙ r
+          ∙ sym (ap length (cond-false (p x) (p x ∷ filter (λ b. b) (map p xs)) (filter (λ b. b) (map p xs)) f))
     ]
 
 -- as many points are object as values are true

@@ -16,7 +16,8 @@ contours_same X a b h k = h.contours_are ∙ ap (map (contour_of X)) (cycles_sam
 pub contour_starts : (X : Picture) (contours : List Contour) → AreContours X contours → All (λ c. c.start.side < 4) contours
 contour_starts X contours are = subst (All (λ c. c.start.side < 4)) (sym are.contours_are) (starts are.cycles are.are.cycle (λ c i. (are.are.each c).1 i))
   where
-    starts : (cycles : List (List Crack)) → All (IsCycle X) cycles → ((c : Crack) → Contains (flat_map (λ x. x) cycles) c → IsCrack X c) → All (λ c. c.start.side < 4) (map (contour_of X) cycles)
+    starts : (cycles : List (List Crack)) → All (IsCycle X) cycles → ((c : Crack) → Contains (flat_map (λ x. x) cycles) c → IsCrack X c)
+        → All (λ c. c.start.side < 4) (map (contour_of X) cycles)
     starts [] a each = All-nil (λ c. c.start.side < 4)
     starts ([] ∷ cycles) a each = absurd (All-head (IsCycle X) [] cycles a)
     starts ((c ∷ cracks) ∷ cycles) a each =

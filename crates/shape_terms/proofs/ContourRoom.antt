@@ -16,12 +16,15 @@ use Rattle.shape_terms.proofs.Numbered.{number_below, number_once}
 use Rattle.shape_terms.proofs.Pigeon.{pigeon}
 
 -- cracks that are apart are at most four for each pixel
-pub few_cracks : (X : Picture) (cracks : List Crack) → ((c : Crack) → Contains cracks c → IsCrack X c) → AllPairs (λ x y. x ≢ y) cracks → length cracks ≤ box_count X.sides * 4
+pub few_cracks : (X : Picture) (cracks : List Crack) → ((c : Crack) → Contains cracks c → IsCrack X c) → AllPairs (λ x y. x ≢ y) cracks
+    → length cracks ≤ box_count X.sides * 4
 few_cracks X [] each once = omega arith
 few_cracks X (first ∷ cracks) each once =
     let all = first ∷ cracks in
-    let is : (i : ℕ) → i < length all → IsCrack X (get_or all i first) = λ i h. each (get_or all i first) (i, h, get_or_default all i (get_or all i first) first h) in
-    pigeon (box_count X.sides * 4) (length all) (λ i. crack_number X.sides (get_or all i first)) (λ i h. number_below X (get_or all i first) (is i h)) (λ i j hi hj e.
+    let is : (i : ℕ) → i < length all
+    → IsCrack X (get_or all i first) = λ i h. each (get_or all i first) (i, h, get_or_default all i (get_or all i first) first h) in
+    pigeon (box_count X.sides * 4) (length all) (λ i. crack_number X.sides (get_or all i first)) (λ i h. number_below X (get_or all i first) (is i h))
+    (λ i j hi hj e.
     let same = number_once X (get_or all i first) (get_or all j first) (is i hi) (is j hj) e in
     elim (dec_lt i j) [
       | yes l ↦ absurd (once i j first l hj same)
@@ -42,7 +45,8 @@ filter_few test (x ∷ xs) = elim (cases_Bool (test x)) [
 few_points : (X : Picture) (c : Crack) (cracks : List Crack) → length (contour_points X (c ∷ cracks)) ≤ length (c ∷ cracks)
 few_points X c cracks =
     let left = left_pixels X (c ∷ cracks) in
-    let f : length left ≤ length (c ∷ cracks) = omega (arith, length-map (filter (λ x. not (stays X x)) (c ∷ cracks)) (λ (x : Crack). x.pixel), filter_few (λ x. not (stays X x)) (c ∷ cracks)) in
+    let f : length left ≤ length (c ∷ cracks) =
+    omega (arith, length-map (filter (λ x. not (stays X x)) (c ∷ cracks)) (λ (x : Crack). x.pixel), filter_few (λ x. not (stays X x)) (c ∷ cracks)) in
     elim (cases_Bool (length left == 0)) [
       | inl t ↦ (let e = ap length (cond-true (length left == 0) (c.pixel ∷ []) left t) in omega arith)
       | inr n ↦ (let e = ap length (cond-false (length left == 0) (c.pixel ∷ []) left n) in omega arith)

@@ -20,7 +20,8 @@ module _ {A : Type 0} {R : A → A → Type 0} {Y Z : A → Type 0} (to : (a : A
   )
 
 -- so have the points that are connected to points of a set
-pub same_holding : {A : Type 0} {R : A → A → Type 0} {Y Z G H : A → Type 0} → ((a : A) → Y a → Z a) → ((a : A) → Y a → G a → H a) → (a : A) → Holding R Y G a → Holding R Z H a
+pub same_holding : {A : Type 0} {R : A → A → Type 0} {Y Z G H : A → Type 0} → ((a : A) → Y a → Z a) → ((a : A) → Y a → G a → H a) → (a : A) → Holding R Y G a
+    → Holding R Z H a
 same_holding to g a (r, h, c) = (r, g r (starts_in c) h, in_greater to c)
 
 -- one component: it has a point, and any two points are connected
@@ -50,7 +51,8 @@ module _ {A : Type 0} (dec : (a b : A) → Dec (a ≡ b)) (N : A → A → Type 
   lead (Connected.onward {p = u} {q = q} y a j) ne s os sp (inr w) =
       let n : N p q = subst (λ x. N x q) w.0 a in
       let h : q ≢ p = λ e. apart p (subst (λ x. N p x) e n) in
-      joined_to (in_greater (λ x (u : O x × N p x). (u.0, λ e. apart p (subst (λ x. N p x) e u.1))) (all_connected one s q (os, w.1) (starts_in j, n))) (lead j ne q (starts_in j) h (inl refl))
+      joined_to (in_greater (λ x (u : O x × N p x). (u.0, λ e. apart p (subst (λ x. N p x) e u.1))) (all_connected one s q (os, w.1) (starts_in j, n)))
+      (lead j ne q (starts_in j) h (inl refl))
 
   pub lost : {n : ℕ} → O p → HasParts N O n → HasParts N (λ x. O x × (x ≢ p)) n
   lost {n} op k = (
@@ -102,7 +104,8 @@ module _ {A : Type 0} (dec : (a b : A) → Dec (a ≡ b)) (S : A → A → Type 
 
     path : (q r : A) (d : Dec (q ≡ p)) (e : Dec (r ≡ p)) → Z q → Z r → relabel f side_point.0 d ≡ relabel f side_point.0 e → Connected S Z q r
     path q r (yes a) (yes b) y z s = subst (λ x. Connected S Z q x) (a ∙ sym b) (Connected.here y)
-    path q r (yes a) (no b) y z s = Connected.onward y (subst (λ x. S x side_point.0) (sym a) side_point.2) (in_greater keeps (k.connected side_point.0 r side_point.1.0 (others r z b) s))
+    path q r (yes a) (no b) y z s = Connected.onward y (subst (λ x. S x side_point.0) (sym a) side_point.2)
+        (in_greater keeps (k.connected side_point.0 r side_point.1.0 (others r z b) s))
     path q r (no a) (yes b) y z s = joined_to (in_greater keeps (k.connected q side_point.0 (others q y a) side_point.1.0 s))
         (Connected.onward (keeps _ side_point.1.0) (subst (λ x. S side_point.0 x) (sym b) (flip _ _ side_point.2)) (Connected.here z))
     path q r (no a) (no b) y z s = in_greater keeps (k.connected q r (others q y a) (others r z b) s)

@@ -29,5 +29,6 @@ module _ {P D : Type 0} {V : D → Type 0} (m : Moves P D) (l : MoveLaws m V) (X
   pub behind_ahead : (p : P) (d : D) → IsEdge m X V p d → let n = edge_ahead m X p d in ◌≡◌ {A = P × D} (edge_behind m X n.0 n.1) (p, d)
   behind_ahead p d c = undo_by _ _ p d refl refl c
 
-  pub ahead_one_to_one : (p q : P) (d e : D) → IsEdge m X V p d → IsEdge m X V q e → ◌≡◌ {A = P × D} (edge_ahead m X p d) (edge_ahead m X q e) → ◌≡◌ {A = P × D} (p, d) (q, e)
+  pub ahead_one_to_one : (p q : P) (d e : D) → IsEdge m X V p d → IsEdge m X V q e → ◌≡◌ {A = P × D} (edge_ahead m X p d) (edge_ahead m X q e)
+      → ◌≡◌ {A = P × D} (p, d) (q, e)
   ahead_one_to_one p q d e c k h = sym (behind_ahead p d c) ∙ (ap (λ (n : P × D). edge_behind m X n.0 n.1) h ∙ behind_ahead q e k)

@@ -11,7 +11,8 @@ use Rattle.shape_terms.proofs.Linear.{dot-moved, dot-times, dot-unit, dot-differ
 use Rattle.shape_terms.specs.Points.{Point}
 use Rattle.shape_terms.specs.Vectors.{times, unit, difference, dot}
 use Rattle.shape_terms.specs.Naive.{Naive, IsProper, HoldsAll, IsNaiveFor}
-use Rattle.shape_terms.specs.Refutations.{Share, Step, StepShare, Refutation, step_of, IsStepOf, point_at, weighted_points, weighted_steps, total_weight, Refutes}
+use Rattle.shape_terms.specs.Refutations.{Share, Step, StepShare, Refutation, step_of, IsStepOf, point_at, weighted_points, weighted_steps, total_weight}
+use Rattle.shape_terms.specs.Refutations.{Refutes}
 use Rattle.shape_terms.proofs.Order.{mul-le_ℤ}
 
 -- a row that is at least m at each point of the shares is at least the weight times m at their sum
@@ -23,7 +24,8 @@ at_least a m f (s ∷ shares) h =
     let e = dot-moved a (times (pos s.weight) (f s.place)) (weighted_points f shares) in
     let t = dot-times a (pos s.weight) (f s.place) in
     let k : (pos s.weight *ℤ m) ≤ℤ (pos s.weight *ℤ dot a (f s.place)) = mul-le_ℤ (pos s.weight) m (dot a (f s.place)) (omega (arith, ints)) h.0 in
-    let d : pos (total_weight (s ∷ shares)) *ℤ m ≡ pos s.weight *ℤ m +ℤ pos (total_weight shares) *ℤ m = ap (λ x. pos x *ℤ m) (sum_by-cons (λ (x : Share). x.weight) s shares) ∙ +ℤ-*ℤ (pos s.weight) (pos (total_weight shares)) m in
+    let d : pos (total_weight (s ∷ shares)) *ℤ m ≡ pos s.weight *ℤ m +ℤ pos (total_weight shares) *ℤ m =
+    ap (λ x. pos x *ℤ m) (sum_by-cons (λ (x : Share). x.weight) s shares) ∙ +ℤ-*ℤ (pos s.weight) (pos (total_weight shares)) m in
     omega (arith, ints)
 
 pub at_most : (a : List ℤ) (m : ℤ) (f : ℕ → Point) (shares : List Share) → AllByRecursion (λ s. dot a (f s.place) ≤ℤ m) shares
@@ -34,7 +36,8 @@ at_most a m f (s ∷ shares) h =
     let e = dot-moved a (times (pos s.weight) (f s.place)) (weighted_points f shares) in
     let t = dot-times a (pos s.weight) (f s.place) in
     let k : (pos s.weight *ℤ dot a (f s.place)) ≤ℤ (pos s.weight *ℤ m) = mul-le_ℤ (pos s.weight) (dot a (f s.place)) m (omega (arith, ints)) h.0 in
-    let d : pos (total_weight (s ∷ shares)) *ℤ m ≡ pos s.weight *ℤ m +ℤ pos (total_weight shares) *ℤ m = ap (λ x. pos x *ℤ m) (sum_by-cons (λ (x : Share). x.weight) s shares) ∙ +ℤ-*ℤ (pos s.weight) (pos (total_weight shares)) m in
+    let d : pos (total_weight (s ∷ shares)) *ℤ m ≡ pos s.weight *ℤ m +ℤ pos (total_weight shares) *ℤ m =
+    ap (λ x. pos x *ℤ m) (sum_by-cons (λ (x : Share). x.weight) s shares) ∙ +ℤ-*ℤ (pos s.weight) (pos (total_weight shares)) m in
     omega (arith, ints)
 
 -- a proper row is not negative on the steps of its axis
@@ -60,7 +63,8 @@ steps_not_negative d t n proper (s ∷ steps) h =
     let ih = steps_not_negative d t n proper steps h.1 in
     let e = dot-moved n.a (times (pos s.weight) (step_of t s.step)) (weighted_steps t steps) in
     let f = dot-times n.a (pos s.weight) (step_of t s.step) in
-    let k : (pos s.weight *ℤ pos 0) ≤ℤ (pos s.weight *ℤ dot n.a (step_of t s.step)) = mul-le_ℤ (pos s.weight) (pos 0) (dot n.a (step_of t s.step)) (omega (arith, ints)) (step_not_negative d t n proper s.step h.0) in
+    let k : (pos s.weight *ℤ pos 0) ≤ℤ (pos s.weight *ℤ dot n.a (step_of t s.step)) = mul-le_ℤ (pos s.weight) (pos 0) (dot n.a (step_of t s.step))
+    (omega (arith, ints)) (step_not_negative d t n proper s.step h.0) in
     omega (arith, ints)
 
 low_points : (t : ℕ) (points : List Point) (n : Naive) → HoldsAll t n points → (shares : List Share) → AllByRecursion (λ s. s.place < length points) shares
@@ -81,7 +85,8 @@ high_points t points n holds (s ∷ shares) h =
 pub excludes : (d t : ℕ) (points : List Point) (r : Refutation) → Refutes d t points r → (n : Naive) → IsNaiveFor t points n → ⊥
 excludes d t points r w n h =
     let low = at_least n.a n.mu (point_at points) r.low (low_points t points n h.holds r.low (recursion_from_All _ r.low w.low_places)) in
-    let high = at_most n.a (n.mu -ℤ pos 1) (λ i. difference (point_at points i) (unit t)) r.high (high_points t points n h.holds r.high (recursion_from_All _ r.high w.high_places)) in
+    let high = at_most n.a (n.mu -ℤ pos 1) (λ i. difference (point_at points i) (unit t)) r.high
+    (high_points t points n h.holds r.high (recursion_from_All _ r.high w.high_places)) in
     let steps = steps_not_negative d t n h.proper r.steps (recursion_from_All _ r.steps w.steps_of_axis) in
     let e = ap (dot n.a) w.meet in
     let m = dot-moved n.a (weighted_points (point_at points) r.low) (weighted_steps t r.steps) in

@@ -21,7 +21,8 @@ room P D Q E a b hb hd he h k =
     cancel-lt_ℤ b (pos 0) (P *ℤ E -ℤ Q *ℤ D) hb (omega (arith, ints, e, x, y, hd, he))
 
 -- where a/b is a neighbour of both bounds, no slope between them has a smaller denominator
-pub least : (P D Q E a b c d : ℤ) → pos 0 <ℤ b → pos 0 <ℤ D → pos 0 <ℤ E → b *ℤ P ≡ a *ℤ D +ℤ pos 1 → a *ℤ E ≡ b *ℤ Q +ℤ pos 1 → (c *ℤ D) <ℤ (d *ℤ P) → (d *ℤ Q) <ℤ (c *ℤ E) → b ≤ℤ d
+pub least : (P D Q E a b c d : ℤ) → pos 0 <ℤ b → pos 0 <ℤ D → pos 0 <ℤ E → b *ℤ P ≡ a *ℤ D +ℤ pos 1 → a *ℤ E ≡ b *ℤ Q +ℤ pos 1 → (c *ℤ D) <ℤ (d *ℤ P)
+    → (d *ℤ Q) <ℤ (c *ℤ E) → b ≤ℤ d
 least P D Q E a b c d hb hd he h k l m =
     let r = room P D Q E a b hb hd he (omega (arith, ints, h)) (omega (arith, ints, k)) in
     let x = mul-le_ℤ E (b *ℤ P -ℤ a *ℤ D) (d *ℤ P -ℤ c *ℤ D) (omega (arith, ints, he)) (omega (arith, ints, h, l)) in

@@ -1,8 +1,10 @@
 -- The cycles of the cracks that were passed by number, and their marks; once all were passed they are those of the picture.
 -- How a cycle is traced and marked belongs elsewhere.
-use Rattle.std.proofs.Common.{◌≡◌, ◌≢◌, ℕ, zero, suc, ◌+◌, ◌*◌, ◌<◌, ◌≤◌, Bool, true, false, ap, sym, ◌∙◌, subst, arith, List, [], ◌∷◌, ◌++◌, length, get_or, ◌⊎◌, inl, inr}
+use Rattle.std.proofs.Common.{◌≡◌, ◌≢◌, ℕ, zero, suc, ◌+◌, ◌*◌, ◌<◌, ◌≤◌, Bool, true, false, ap, sym, ◌∙◌, subst, arith, List, [], ◌∷◌, ◌++◌, length, get_or}
+use Rattle.std.proofs.Common.{◌⊎◌, inl, inr}
 use Rattle.std.specs.Prelude.{AllPairs, All, Contains, flat_map}
-use Rattle.std.proofs.lemmas.List.Elements.{All-push, All-append, All-contains, All-nil, All-weaker, Contains-get_or, Contains-append_left, Contains-append_right, Contains-append_cases}
+use Rattle.std.proofs.lemmas.List.Elements.{All-push, All-append, All-contains, All-nil, All-weaker, Contains-get_or, Contains-append_left}
+use Rattle.std.proofs.lemmas.List.Elements.{Contains-append_right, Contains-append_cases}
 use Rattle.std.proofs.lemmas.List.Concat.{flat_map-append}
 use Rattle.std.proofs.lemmas.List.Quantifiers.{all_pairs_push}
 use Rattle.std.proofs.lemmas.List.{append-nil}
@@ -23,7 +25,8 @@ pairs-cons R x xs h k (suc i) (suc j) d l m = k i j d (omega arith) (omega arith
 pub All-each : {A : Type 0} (P : A → Type 0) (xs : List A) → ((x : A) → Contains xs x → P x) → All P xs
 All-each P xs h k d l = h (get_or xs k d) (Contains-get_or xs k d l)
 
-pub pairs-append : {A : Type 0} (R : A → A → Type 0) (xs ys : List A) → AllPairs R xs → AllPairs R ys → ((x y : A) → Contains xs x → Contains ys y → R x y) → AllPairs R (xs ++ ys)
+pub pairs-append : {A : Type 0} (R : A → A → Type 0) (xs ys : List A) → AllPairs R xs → AllPairs R ys → ((x y : A) → Contains xs x → Contains ys y → R x y)
+    → AllPairs R (xs ++ ys)
 pairs-append R [] ys h k f = k
 pairs-append R (x ∷ xs) ys h k f = pairs-cons R x (xs ++ ys)
     (All-append (R x) xs ys (pairs-head R x xs h) (All-each (R x) ys (λ y j. f x y (head_in x xs) j)))
@@ -33,7 +36,8 @@ joined-push : {A : Type 0} (xss : List (List A)) (ys : List A) → flat_map (λ 
 joined-push xss ys = flat_map-append (λ (c : List _). c) xss (ys ∷ [])
 
 -- all cracks of a list that follows from a crack are cracks
-follow_cracks : (X : Picture) → length X.sides ≡ 2 → (f c : Crack) (xs : List Crack) → IsCrack X c → Follow X f (c ∷ xs) → (x : Crack) → Contains (c ∷ xs) x → IsCrack X x
+follow_cracks : (X : Picture) → length X.sides ≡ 2 → (f c : Crack) (xs : List Crack) → IsCrack X c → Follow X f (c ∷ xs) → (x : Crack) → Contains (c ∷ xs) x
+    → IsCrack X x
 follow_cracks X axes f c [] k h x i = elim (in_cases c [] x i) [ inl e ↦ subst (IsCrack X) e k | inr n ↦ absurd (in_none x n) ]
 follow_cracks X axes f c (d ∷ xs) k h x i = elim (in_cases c (d ∷ xs) x i) [
   | inl e ↦ subst (IsCrack X) e k
@@ -75,7 +79,8 @@ module _ (X : Picture) (axes : length X.sides ≡ 2) where
     once = f.once;
     rising = f.rising;
     cracks = f.cracks;
-    begun = All-weaker (λ x. crack_number X.sides (first_of_cycle x) < i) (λ x. crack_number X.sides (first_of_cycle x) < i + 1) (λ x l. omega arith) cycles f.begun;
+    begun = All-weaker (λ x. crack_number X.sides (first_of_cycle x) < i) (λ x. crack_number X.sides (first_of_cycle x) < i + 1) (λ x l. omega arith) cycles
+        f.begun;
     marked = f.marked;
     marks_all = f.marks_all;
     passed = passed;
@@ -88,7 +93,8 @@ module _ (X : Picture) (axes : length X.sides ≡ 2) where
       ]
 
   -- the cycle of an unmarked level crack comes last
-  module _ (i : ℕ) (marks marks' : ℕ → Bool) (cycles : List (List Crack)) (f : Found X i marks cycles) (s : Crack) (k : IsCrack X s) (n : crack_number X.sides s ≡ i) (level : IsLevel s) (new : marks i ≡ false)
+  module _ (i : ℕ) (marks marks' : ℕ → Bool) (cycles : List (List Crack)) (f : Found X i marks cycles) (s : Crack) (k : IsCrack X s)
+      (n : crack_number X.sides s ≡ i) (level : IsLevel s) (new : marks i ≡ false)
       (xs : List Crack) (cyc : IsCycle X (s ∷ xs)) (m : MarksCycle X.sides (s ∷ xs) marks marks') where
     ours : (x : Crack) → Contains (s ∷ xs) x → IsCrack X x
     ours x j = follow_cracks X axes s s xs k cyc.1 x j
@@ -145,10 +151,15 @@ module _ (X : Picture) (axes : length X.sides ≡ 2) where
     found_more = record {
       cycle = All-push (IsCycle X) cycles (s ∷ xs) f.cycle cyc;
       least = All-push BeginsLeast cycles (s ∷ xs) f.least (All-each (CrackBefore s) xs after);
-      once = subst (AllPairs (λ x y. x ≢ y)) (sym all_is) (pairs-append (λ x y. x ≢ y) (flat_map (λ c. c) cycles) (s ∷ xs) f.once cyc.0 (λ x y p q e. apart y q (subst (Contains (flat_map (λ c. c) cycles)) e p)));
-      rising = all_pairs_push (λ x y. CrackBefore (first_of_cycle x) (first_of_cycle y)) cycles (s ∷ xs) f.rising (λ k d l. before (get_or cycles k d) (Contains-get_or cycles k d l));
+      once = subst (AllPairs (λ x y. x ≢ y)) (sym all_is)
+          (pairs-append (λ x y. x ≢ y) (flat_map (λ c. c) cycles) (s ∷ xs) f.once cyc.0
+          (λ x y p q e. apart y q (subst (Contains (flat_map (λ c. c) cycles)) e p)));
+      rising = all_pairs_push (λ x y. CrackBefore (first_of_cycle x) (first_of_cycle y)) cycles (s ∷ xs) f.rising
+          (λ k d l. before (get_or cycles k d) (Contains-get_or cycles k d l));
       cracks = λ x j. elim (split x j) [ inl p ↦ f.cracks x p | inr p ↦ ours x p ];
-      begun = All-push (λ x. crack_number X.sides (first_of_cycle x) < i + 1) cycles (s ∷ xs) (All-weaker (λ x. crack_number X.sides (first_of_cycle x) < i) (λ x. crack_number X.sides (first_of_cycle x) < i + 1) (λ x l. omega arith) cycles f.begun) (omega arith);
+      begun = All-push (λ x. crack_number X.sides (first_of_cycle x) < i + 1) cycles (s ∷ xs)
+          (All-weaker (λ x. crack_number X.sides (first_of_cycle x) < i) (λ x. crack_number X.sides (first_of_cycle x) < i + 1) (λ x l. omega arith) cycles
+          f.begun) (omega arith);
       marked = λ x q e. elim (m.none (crack_number X.sides x) e) [
         | inl o ↦ old_in x (f.marked x q o)
         | inr o ↦ new_in x (subst (Contains (s ∷ xs)) (is_numbered X o.0 (ours o.0 o.1) ∙ (ap (numbered X.sides) o.2 ∙ sym (is_numbered X x q))) o.1)

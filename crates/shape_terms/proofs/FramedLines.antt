@@ -22,7 +22,8 @@ before a c low y s =
     let b : low % a < a = omega arith in
     (rw e (mod-mul-add (low / a + c * y) a (low % a) b), rw e (div-mul-add (low / a + c * y) a (low % a) b))
 
-raster_split : (ms : List ℕ) (n : ℕ) (bs : List ℕ) (low x high : ℕ) → low < box_count ms → x < n → raster_point (ms ++ n ∷ bs) (place (box_count ms) n low x high) ≡ raster_point ms low ++ pos x ∷ raster_point bs high
+raster_split : (ms : List ℕ) (n : ℕ) (bs : List ℕ) (low x high : ℕ) → low < box_count ms → x < n
+    → raster_point (ms ++ n ∷ bs) (place (box_count ms) n low x high) ≡ raster_point ms low ++ pos x ∷ raster_point bs high
 raster_split [] n bs low x high l h =
     let e : place 1 n low x high ≡ high * n + x = omega arith in
     rw (e, mod-mul-add high n x h, div-mul-add high n x h) refl
@@ -36,7 +37,8 @@ pub framed_split : (sa : List ℕ) (n : ℕ) (sb : List ℕ) (low x high : ℕ) 
     → framed_point (sa ++ n ∷ sb) (place (box_count (framed_sides sa)) (n + 2) low x high) ≡ framed_point sa low ++ (pos x -ℤ pos 1) ∷ framed_point sb high
 framed_split sa n sb low x high l h =
     let e : framed_sides (sa ++ n ∷ sb) ≡ framed_sides sa ++ (n + 2) ∷ framed_sides sb = map-append (λ n. n + 2) sa (n ∷ sb) in
-    rw (e, raster_split (framed_sides sa) (n + 2) (framed_sides sb) low x high l h) (map-append (λ x. x -ℤ pos 1) (raster_point (framed_sides sa) low) (pos x ∷ raster_point (framed_sides sb) high))
+    rw (e, raster_split (framed_sides sa) (n + 2) (framed_sides sb) low x high l h)
+    (map-append (λ x. x -ℤ pos 1) (raster_point (framed_sides sa) low) (pos x ∷ raster_point (framed_sides sb) high))
 
 -- ---- distances
 
@@ -44,7 +46,8 @@ distance_split : (a b p q : Point) → length a ≡ length b → squared_distanc
 distance_split [] [] p q e = omega arith
 distance_split [] (y ∷ b) p q e = absurd (omega arith)
 distance_split (x ∷ a) [] p q e = absurd (omega arith)
-distance_split (x ∷ a) (y ∷ b) p q e = rw (squared_distance-cons x y (a ++ p) (b ++ q), squared_distance-cons x y a b, distance_split a b p q (omega arith)) (omega arith)
+distance_split (x ∷ a) (y ∷ b) p q e = rw (squared_distance-cons x y (a ++ p) (b ++ q), squared_distance-cons x y a b, distance_split a b p q (omega arith))
+    (omega arith)
 
 pub distance_same : (p : Point) → squared_distance p p ≡ 0
 distance_same [] = refl
@@ -56,18 +59,28 @@ distance_same (x ∷ p) =
     nothing x = let e : x -ℤ x ≡ pos 0 = omega (arith, ints) in ap nat_abs e
 
 -- two points that differ at most on one axis and before it: the square of the way on the axis, and the rest
-distance_on : (a b rest : Point) (u v : ℤ) → length a ≡ length b → squared_distance (a ++ u ∷ rest) (b ++ v ∷ rest) ≡ squared_distance (a ++ v ∷ rest) (b ++ v ∷ rest) + nat_abs (u -ℤ v) * nat_abs (u -ℤ v)
+distance_on : (a b rest : Point) (u v : ℤ) → length a ≡ length b
+    → squared_distance (a ++ u ∷ rest) (b ++ v ∷ rest) ≡ squared_distance (a ++ v ∷ rest) (b ++ v ∷ rest) + nat_abs (u -ℤ v) * nat_abs (u -ℤ v)
 distance_on a b rest u v e =
     let z : nat_abs (v -ℤ v) ≡ 0 = ap nat_abs (none v) in
-    rw (distance_split a b (u ∷ rest) (v ∷ rest) e, distance_split a b (v ∷ rest) (v ∷ rest) e, squared_distance-cons u v rest rest, squared_distance-cons v v rest rest, distance_same rest, z) (omega arith)
+    rw (
+      distance_split a b (u ∷ rest) (v ∷ rest) e,
+      distance_split a b (v ∷ rest) (v ∷ rest) e,
+      squared_distance-cons u v rest rest,
+      squared_distance-cons v v rest rest,
+      distance_same rest,
+      z,
+    ) (omega arith)
   where
     none : (v : ℤ) → v -ℤ v ≡ pos 0
     none v = omega (arith, ints)
 
 -- the distance of two points of which one stands on a line of the other's rest, by the line's point beside it
-pub apart_on_line : (sa : List ℕ) (n : ℕ) (sb : List ℕ) (low low2 x y high : ℕ) → low < box_count (framed_sides sa) → low2 < box_count (framed_sides sa) → x < n + 2 → y < n + 2
+pub apart_on_line : (sa : List ℕ) (n : ℕ) (sb : List ℕ) (low low2 x y high : ℕ) → low < box_count (framed_sides sa) → low2 < box_count (framed_sides sa)
+    → x < n + 2 → y < n + 2
     → apart (sa ++ n ∷ sb) (place (box_count (framed_sides sa)) (n + 2) low x high) (place (box_count (framed_sides sa)) (n + 2) low2 y high)
-    ≡ apart (sa ++ n ∷ sb) (place (box_count (framed_sides sa)) (n + 2) low y high) (place (box_count (framed_sides sa)) (n + 2) low2 y high) + gap x y * gap x y
+    ≡ apart (sa ++ n ∷ sb) (place (box_count (framed_sides sa)) (n + 2) low y high) (place (box_count (framed_sides sa)) (n + 2) low2 y high) + gap x y
+    * gap x y
 apart_on_line sa n sb low low2 x y high l l2 h k =
     let e : nat_abs ((pos x -ℤ pos 1) -ℤ (pos y -ℤ pos 1)) ≡ gap x y = ap nat_abs (lowered x y) in
     let same : length (framed_point sa low) ≡ length (framed_point sa low2) = length-framed_point sa low ∙ sym (length-framed_point sa low2) in

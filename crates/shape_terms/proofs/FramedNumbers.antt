@@ -1,6 +1,7 @@
 -- The framed box by coordinates and by numbers: the numbers of its points are those below its count, each once.
 -- Laws over sides and points alone.
-use Rattle.std.proofs.Common.{◌≡◌, ◌⊎◌, inl, inr, ◌+◌, ◌*◌, ◌<◌, ℕ, zero, suc, false, ℤ, pos, negsuc, ◌+ℤ◌, ◌-ℤ◌, ◌≤ℤ◌, ◌<ℤ◌, List, [], ◌∷◌, length, map, drop, refl, arith, mul_comm}
+use Rattle.std.proofs.Common.{◌≡◌, ◌⊎◌, inl, inr, ◌+◌, ◌*◌, ◌<◌, ℕ, zero, suc, false, ℤ, pos, negsuc, ◌+ℤ◌, ◌-ℤ◌, ◌≤ℤ◌, ◌<ℤ◌, List, [], ◌∷◌, length, map, drop}
+use Rattle.std.proofs.Common.{refl, arith, mul_comm}
 use Rattle.std.specs.Prelude.{nat_abs, IsTrue}
 use Rattle.std.proofs.lemmas.Int.{ints}
 use Rattle.std.proofs.lemmas.Bool.{false_from_ne_true}
@@ -14,20 +15,23 @@ use Rattle.shape_terms.specs.Places.{raised, in_frame, framed_number}
 
 -- ---- the box by coordinates
 
-pub in_frame_first : (n : ℕ) (sides : List ℕ) (x : ℤ) (p : Point) → IsTrue (in_frame (n ∷ sides) (x ∷ p)) → (negsuc 0 ≤ℤ x) × (x ≤ℤ pos n) × IsTrue (in_frame sides p)
+pub in_frame_first : (n : ℕ) (sides : List ℕ) (x : ℤ) (p : Point) → IsTrue (in_frame (n ∷ sides) (x ∷ p))
+    → (negsuc 0 ≤ℤ x) × (x ≤ℤ pos n) × IsTrue (in_frame sides p)
 in_frame_first n sides x p h =
     let f = in_box_first (n + 2) (framed_sides sides) (x +ℤ pos 1) (raised p) h in
     let is = abs_is (x +ℤ pos 1) f.0 in
     let l = f.1 in
     (omega (arith, ints, f.0), omega (arith, ints), f.2)
 
-pub in_frame_more : (n : ℕ) (sides : List ℕ) (x : ℤ) (p : Point) → negsuc 0 ≤ℤ x → x ≤ℤ pos n → IsTrue (in_frame sides p) → IsTrue (in_frame (n ∷ sides) (x ∷ p))
+pub in_frame_more : (n : ℕ) (sides : List ℕ) (x : ℤ) (p : Point) → negsuc 0 ≤ℤ x → x ≤ℤ pos n → IsTrue (in_frame sides p)
+    → IsTrue (in_frame (n ∷ sides) (x ∷ p))
 in_frame_more n sides x p l h r =
     let is = abs_is (x +ℤ pos 1) (omega (arith, ints)) in
     in_box_more (n + 2) (framed_sides sides) (x +ℤ pos 1) (raised p) (omega (arith, ints)) (omega (arith, ints)) r
 
 -- the point is in the framed box where each coordinate is from -1 up to the side
-pub in_frame_by : (ns p : Point) → length p ≡ length ns → ((k : ℕ) → k < length ns → (negsuc 0 ≤ℤ coordinate p k) × (coordinate p k ≤ℤ coordinate ns k)) → IsTrue (in_frame (sides_of ns) p)
+pub in_frame_by : (ns p : Point) → length p ≡ length ns → ((k : ℕ) → k < length ns → (negsuc 0 ≤ℤ coordinate p k) × (coordinate p k ≤ℤ coordinate ns k))
+    → IsTrue (in_frame (sides_of ns) p)
 in_frame_by [] [] e h = refl
 in_frame_by [] (x ∷ p) e h = absurd (omega arith)
 in_frame_by (n ∷ ns) [] e h = absurd (omega arith)
@@ -40,7 +44,8 @@ in_frame_by (n ∷ ns) (x ∷ p) e h =
     at_most (negsuc n) x h = omega (arith, ints)
 
 -- and only there
-pub in_frame_coordinate : (greatest : ℤ) (ns p : Point) (k : ℕ) → AreSides greatest ns → k < length ns → IsTrue (in_frame (sides_of ns) p) → (negsuc 0 ≤ℤ coordinate p k) × (coordinate p k ≤ℤ coordinate ns k)
+pub in_frame_coordinate : (greatest : ℤ) (ns p : Point) (k : ℕ) → AreSides greatest ns → k < length ns → IsTrue (in_frame (sides_of ns) p)
+    → (negsuc 0 ≤ℤ coordinate p k) × (coordinate p k ≤ℤ coordinate ns k)
 in_frame_coordinate g [] p k a l h = absurd (omega arith)
 in_frame_coordinate g (n ∷ ns) [] k a l h = cc
 in_frame_coordinate g (n ∷ ns) (x ∷ p) zero a l h =
@@ -51,7 +56,8 @@ in_frame_coordinate g (n ∷ ns) (x ∷ p) zero a l h =
 in_frame_coordinate g (n ∷ ns) (x ∷ p) (suc k) a l h =
     in_frame_coordinate g ns p k (λ j m. a (suc j) (omega arith)) (omega arith) (in_frame_first (nat_abs n) (sides_of ns) x p h).2
 
-pub out_of_frame : (greatest : ℤ) (ns p : Point) (k : ℕ) → AreSides greatest ns → k < length ns → (coordinate p k <ℤ negsuc 0) ⊎ (coordinate ns k <ℤ coordinate p k) → in_frame (sides_of ns) p ≡ false
+pub out_of_frame : (greatest : ℤ) (ns p : Point) (k : ℕ) → AreSides greatest ns → k < length ns
+    → (coordinate p k <ℤ negsuc 0) ⊎ (coordinate ns k <ℤ coordinate p k) → in_frame (sides_of ns) p ≡ false
 out_of_frame g ns p k sides l out = false_from_ne_true (in_frame (sides_of ns) p) (λ h.
     let c = in_frame_coordinate g ns p k sides l h in
     elim out [ inl a ↦ omega (arith, ints, c.0) | inr a ↦ omega (arith, ints, c.1) ])
@@ -97,7 +103,8 @@ framed_number-framed_point sides i l = rw (raised-lowered (raster_point (framed_
 
 -- ---- one axis more in the loop over the axes, from the last to the first
 
-pub framed_number_step : (ns p : Point) (k j i w : ℕ) (x : ℤ) → k ≡ j + 1 → j < length ns → length p ≡ length ns → i ≡ framed_number (sides_of (drop k ns)) (drop k p) → w ≡ nat_abs (coordinate ns j) + 2 → x ≡ coordinate p j
+pub framed_number_step : (ns p : Point) (k j i w : ℕ) (x : ℤ) → k ≡ j + 1 → j < length ns → length p ≡ length ns
+    → i ≡ framed_number (sides_of (drop k ns)) (drop k p) → w ≡ nat_abs (coordinate ns j) + 2 → x ≡ coordinate p j
     → i * w + nat_abs (x +ℤ pos 1) ≡ framed_number (sides_of (drop j ns)) (drop j p)
 framed_number_step ns p k j i w x e l m h a b =
     rw (h, a, b, e, drop_more ns j (pos 0) l, drop_more p j (pos 0) (omega arith))
@@ -113,7 +120,8 @@ in_frame_drop [] (x ∷ p) (suc j) h = cc
 in_frame_drop (n ∷ ns) [] (suc j) h = cc
 in_frame_drop (n ∷ ns) (x ∷ p) (suc j) h = in_frame_drop ns p j (in_frame_first (nat_abs n) (sides_of ns) x p h).2
 
-pub framed_number_part : (ns p : Point) (k j i w : ℕ) (x : ℤ) → k ≡ j + 1 → j < length ns → length p ≡ length ns → i ≡ framed_number (sides_of (drop k ns)) (drop k p) → w ≡ nat_abs (coordinate ns j) + 2 → x ≡ coordinate p j
+pub framed_number_part : (ns p : Point) (k j i w : ℕ) (x : ℤ) → k ≡ j + 1 → j < length ns → length p ≡ length ns
+    → i ≡ framed_number (sides_of (drop k ns)) (drop k p) → w ≡ nat_abs (coordinate ns j) + 2 → x ≡ coordinate p j
     → IsTrue (in_frame (sides_of ns) p) → i * w + nat_abs (x +ℤ pos 1) < box_count (framed_sides (sides_of ns))
 framed_number_part ns p k j i w x e l m h a b ins =
     let s = framed_number_step ns p k j i w x e l m h a b in

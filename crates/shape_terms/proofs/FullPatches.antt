@@ -19,7 +19,8 @@ pub record IsFullPatch (d t : ℕ) (exposed before : List Point) (patch : Patch)
   pub first : (p : Point) × (slice_get patch.points 0 ≡ Some p) × IsFirstLeft exposed before p
   pub grows : Grows patch.points
   pub plane : IsNaiveFor t patch.points patch.plane
-  pub left : (q : Point) → Contains exposed q → (Contains (before ++ patch.points) q → ⊥) → (p : Point) → Contains patch.points p → Near q p → (why : Refutation) × Refutes d t (patch.points ++ q ∷ []) why
+  pub left : (q : Point) → Contains exposed q → (Contains (before ++ patch.points) q → ⊥) → (p : Point) → Contains patch.points p → Near q p
+      → (why : Refutation) × Refutes d t (patch.points ++ q ∷ []) why
 
 -- each patch is full after those before it
 abbrev pub AreFullPatches : ℕ → ℕ → List Point → List Patch → Type 0
@@ -30,7 +31,8 @@ AreFullPatches d t exposed patches = (k : ℕ) (x : Patch) → slice_get patches
 pub points_of-push : (patches : List Patch) (x : Patch) → points_of (patches ++ x ∷ []) ≡ points_of patches ++ x.points
 points_of-push patches x = flat_map-append (λ (y : Patch). y.points) patches (x ∷ []) ∙ ap (λ l. points_of patches ++ l) (append-nil x.points)
 
-pub points_to : (patches : List Patch) (k : ℕ) (x : Patch) → slice_get patches k ≡ Some x → points_of (take (suc k) patches) ≡ points_of (take k patches) ++ x.points
+pub points_to : (patches : List Patch) (k : ℕ) (x : Patch) → slice_get patches k ≡ Some x
+    → points_of (take (suc k) patches) ≡ points_of (take k patches) ++ x.points
 points_to [] k x e = cc
 points_to (y ∷ patches) zero x e = let h : y ≡ x = cc in append-nil y.points ∙ ap (λ (z : Patch). z.points) h
 points_to (y ∷ patches) (suc k) x e = ap (λ l. y.points ++ l) (points_to patches k x e) ∙ sym (append_assoc y.points (points_of (take k patches)) x.points)
@@ -40,8 +42,10 @@ points_split patches k = ap points_of (sym (take-append-drop k patches)) ∙ fla
 
 -- ---- the partition
 
-pub partition_of : (d : ℕ) (X : Picture) (t : ℕ) (sense : Sense) (patches : List Patch) → AreFullPatches d t (exposed_points X t sense) patches → AllPairs (λ p q. p ≢ q) (points_of patches)
-    → ((p : Point) → Contains (points_of patches) p → Contains (exposed_points X t sense) p) → length (points_of patches) ≡ length (exposed_points X t sense) → IsPartition d X t sense patches
+pub partition_of : (d : ℕ) (X : Picture) (t : ℕ) (sense : Sense) (patches : List Patch) → AreFullPatches d t (exposed_points X t sense) patches
+    → AllPairs (λ p q. p ≢ q) (points_of patches)
+    → ((p : Point) → Contains (points_of patches) p → Contains (exposed_points X t sense) p) → length (points_of patches) ≡ length (exposed_points X t sense)
+    → IsPartition d X t sense patches
 partition_of d X t sense patches full once within all = record {
   once = once;
   all = λ p. (all_there (points_of patches) (exposed_points X t sense) once within all p, within p);
@@ -53,7 +57,10 @@ partition_of d X t sense patches full once within all = record {
         plane = f.plane;
         refused = λ q c p m n.
             let parts = points_split patches (suc k) in
-            let here = subst (λ l. Contains l q) (sym parts) (Contains-append_right (points_of (take (suc k) patches)) (points_of (drop (suc k) patches)) q c) in
-            f.left q (within q here) (λ b. across (λ a b. a ≢ b) (points_of (take (suc k) patches)) (points_of (drop (suc k) patches)) q q (subst (AllPairs (λ a b. a ≢ b)) parts once) (subst (λ l. Contains l q) (sym (points_to patches k x e)) b) c refl) p m n;
+            let here = subst (λ l. Contains l q) (sym parts) (Contains-append_right (points_of (take (suc k) patches)) (points_of (drop (suc k) patches)) q c)
+            in
+            f.left q (within q here)
+            (λ b. across (λ a b. a ≢ b) (points_of (take (suc k) patches)) (points_of (drop (suc k) patches)) q q
+            (subst (AllPairs (λ a b. a ≢ b)) parts once) (subst (λ l. Contains l q) (sym (points_to patches k x e)) b) c refl) p m n;
       };
 }

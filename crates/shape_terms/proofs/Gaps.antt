@@ -34,7 +34,8 @@ module _ {n : ℕ} {S : ℕ → ℕ → Type 0} {m : ℕ} {B E : ℕ → ℕ} (r
       let a = g.rising_e k i in
       let b = g.wide k i in
       let c = g.rising_b k i in
-      g.bent k i (r.part _ _ _ _ (r.off (pred (B (suc k))) (E (suc k)) (subst (λ x. S x (E (suc k) + n)) (omega arith) s)) (omega arith) (omega arith) (omega arith))
+      g.bent k i (r.part _ _ _ _ (r.off (pred (B (suc k))) (E (suc k)) (subst (λ x. S x (E (suc k) + n)) (omega arith) s)) (omega arith) (omega arith)
+      (omega arith))
 
   pub each_maximal : (k : ℕ) → k < m → Maximal n S (B k) (E k)
   each_maximal k h = (g.straight k h, not_left k h, not_right k h)

@@ -16,7 +16,8 @@ same_pixel false true B A c h = let f : false ≡ true = h in cc
 same_pixel false false B A c h = refl
 
 pub stays_pixel : (X : Picture) (c : Crack) → stays X c ≡ true → (successor X c).pixel ≡ c.pixel
-stays_pixel X c h = same_pixel (at X (across c)) (at X (ahead c)) (record { pixel = across c; side = (c.side + 3) % 4 }) (record { pixel = ahead c; side = c.side }) (record { pixel = c.pixel; side = (c.side + 1) % 4 }) h
+stays_pixel X c h = same_pixel (at X (across c)) (at X (ahead c)) (record { pixel = across c; side = (c.side + 3) % 4 })
+    (record { pixel = ahead c; side = c.side }) (record { pixel = c.pixel; side = (c.side + 1) % 4 }) h
 
 other_pixel : (b a : Bool) (B A c : Crack) → B.pixel ≢ c.pixel → A.pixel ≢ c.pixel → (not b && not a) ≡ false → (cond b B (cond a A c)).pixel ≢ c.pixel
 other_pixel true a B A c m n h = m
@@ -46,10 +47,13 @@ pub leaves_pixel : (X : Picture) → length X.sides ≡ 2 → (c : Crack) → Is
 leaves_pixel X axes c k h =
     let t = two_axes c.pixel (object_axes X c.pixel k.pixel ∙ axes) in
     let e = t.1 in
-    let a : ahead c ≢ c.pixel = subst (λ (p : Point). moved p (forward c.side) ≢ p) (sym e) (subst (λ (p : Point). p ≢ point t.0) (sym (moved_step ((c.side + 1) % 4) t.0)) (step_away ((c.side + 1) % 4) t.0)) in
+    let a : ahead c ≢ c.pixel = subst (λ (p : Point). moved p (forward c.side) ≢ p) (sym e)
+    (subst (λ (p : Point). p ≢ point t.0) (sym (moved_step ((c.side + 1) % 4) t.0)) (step_away ((c.side + 1) % 4) t.0)) in
     let b : across c ≢ c.pixel = subst (λ (p : Point). moved (moved p (normal c.side)) (forward c.side) ≢ p) (sym e)
-    (subst (λ (p : Point). moved p (forward c.side) ≢ point t.0) (sym (moved_step c.side t.0)) (subst (λ (p : Point). p ≢ point t.0) (sym (moved_step ((c.side + 1) % 4) (step c.side t.0))) (corner_away c.side t.0 k.side))) in
-    other_pixel (at X (across c)) (at X (ahead c)) (record { pixel = across c; side = (c.side + 3) % 4 }) (record { pixel = ahead c; side = c.side }) (record { pixel = c.pixel; side = (c.side + 1) % 4 }) b a h
+    (subst (λ (p : Point). moved p (forward c.side) ≢ point t.0) (sym (moved_step c.side t.0))
+    (subst (λ (p : Point). p ≢ point t.0) (sym (moved_step ((c.side + 1) % 4) (step c.side t.0))) (corner_away c.side t.0 k.side))) in
+    other_pixel (at X (across c)) (at X (ahead c)) (record { pixel = across c; side = (c.side + 3) % 4 }) (record { pixel = ahead c; side = c.side })
+    (record { pixel = c.pixel; side = (c.side + 1) % 4 }) b a h
 
 -- ---- how far the next pixel is
 any_close : (b a : Bool) (p : Point) (B A c : Crack) → AreClose p B.pixel → AreClose p A.pixel → AreClose p c.pixel → AreClose p (cond b B (cond a A c)).pixel
@@ -93,7 +97,10 @@ pub successor_close : (X : Picture) → length X.sides ≡ 2 → (c : Crack) →
 successor_close X axes c k =
     let t = two_axes c.pixel (object_axes X c.pixel k.pixel ∙ axes) in
     let e = t.1 in
-    let a : AreClose c.pixel (ahead c) = subst (λ (p : Point). AreClose p (moved p (forward c.side))) (sym e) (subst (AreClose (point t.0)) (sym (moved_step ((c.side + 1) % 4) t.0)) (step_close ((c.side + 1) % 4) t.0)) in
+    let a : AreClose c.pixel (ahead c) = subst (λ (p : Point). AreClose p (moved p (forward c.side))) (sym e)
+    (subst (AreClose (point t.0)) (sym (moved_step ((c.side + 1) % 4) t.0)) (step_close ((c.side + 1) % 4) t.0)) in
     let b : AreClose c.pixel (across c) = subst (λ (p : Point). AreClose p (moved (moved p (normal c.side)) (forward c.side))) (sym e)
-    (subst (λ (p : Point). AreClose (point t.0) (moved p (forward c.side))) (sym (moved_step c.side t.0)) (subst (AreClose (point t.0)) (sym (moved_step ((c.side + 1) % 4) (step c.side t.0))) (corner_close c.side t.0 k.side))) in
-    any_close (at X (across c)) (at X (ahead c)) c.pixel (record { pixel = across c; side = (c.side + 3) % 4 }) (record { pixel = ahead c; side = c.side }) (record { pixel = c.pixel; side = (c.side + 1) % 4 }) b a (close_itself c.pixel)
+    (subst (λ (p : Point). AreClose (point t.0) (moved p (forward c.side))) (sym (moved_step c.side t.0))
+    (subst (AreClose (point t.0)) (sym (moved_step ((c.side + 1) % 4) (step c.side t.0))) (corner_close c.side t.0 k.side))) in
+    any_close (at X (across c)) (at X (ahead c)) c.pixel (record { pixel = across c; side = (c.side + 3) % 4 }) (record { pixel = ahead c; side = c.side })
+    (record { pixel = c.pixel; side = (c.side + 1) % 4 }) b a (close_itself c.pixel)

@@ -1,6 +1,7 @@
 -- The tests of adjacency are right, and so are the sets that lists of truth values stand for.
 -- Laws over lists alone.
-use Rattle.std.proofs.Common.{◌≡◌, ◌≤◌, ◌<◌, ◌↔◌, ℕ, suc, Bool, true, false, cond, refl, ap, sym, ◌∙◌, subst, arith, List, [], ◌∷◌, length, map, get_or, slice_index}
+use Rattle.std.proofs.Common.{◌≡◌, ◌≤◌, ◌<◌, ◌↔◌, ℕ, suc, Bool, true, false, cond, refl, ap, sym, ◌∙◌, subst, arith, List, [], ◌∷◌, length, map, get_or}
+use Rattle.std.proofs.Common.{slice_index}
 use Rattle.std.specs.Prelude.{◌-ℤ◌, nat_abs, nat_lt, ◌==◌}
 use Rattle.std.specs.Int.{bit_at}
 use Rattle.std.specs.List.{AllZip}
@@ -36,7 +37,8 @@ is_close : (p q : Point) → AllZip (λ x y. nat_abs (x -ℤ y) ≤ 1) p q → c
 is_close [] [] h = refl
 is_close [] (y ∷ q) h = absurd h
 is_close (x ∷ p) [] h = absurd h
-is_close (x ∷ p) (y ∷ q) h = let a = h.0 in and_from (nat_lt (nat_abs (x -ℤ y)) 2) (close_test p q) (lt-ltb (nat_abs (x -ℤ y)) 2 (omega arith)) (is_close p q h.1)
+is_close (x ∷ p) (y ∷ q) h = let a = h.0 in and_from (nat_lt (nat_abs (x -ℤ y)) 2) (close_test p q) (lt-ltb (nat_abs (x -ℤ y)) 2 (omega arith))
+    (is_close p q h.1)
 
 pub near_tested : (p q : Point) → (near_test p q ≡ true) ↔ Near p q
 near_tested p q = (to, of)
@@ -51,7 +53,8 @@ near_tested p q = (to, of)
     of h =
         let c = is_close p q h.1 in
         and_from (nat_lt 0 (city_distance p q)) (close_test p q)
-        (lt-ltb 0 (city_distance p q) (elim (dec_lt 0 (city_distance p q)) [ yes l ↦ l | no l ↦ absurd (h.0 (same_place p q (close_length p q c) (omega arith))) ]))
+        (lt-ltb 0 (city_distance p q)
+        (elim (dec_lt 0 (city_distance p q)) [ yes l ↦ l | no l ↦ absurd (h.0 (same_place p q (close_length p q c) (omega arith))) ]))
         c
 
 pub side_tested : (p q : Point) → length p ≡ length q → (side_test p q ≡ true) ↔ Side p q

@@ -4,7 +4,8 @@ use Rattle.std.proofs.Common.{◌≡◌, ◌⊎◌, inl, inr, ℕ, zero, suc, re
 use Rattle.std.specs.Prelude.{slice_get}
 
 -- an element of a list with one more at its end is one of the list or that last one
-pub get_push : {A : Type 0} (xs : List A) (x : A) (k : ℕ) (m : A) → slice_get (xs ++ x ∷ []) k ≡ Some m → ((slice_get xs k ≡ Some m) × (take k (xs ++ x ∷ []) ≡ take k xs)) ⊎ ((x ≡ m) × (take k (xs ++ x ∷ []) ≡ xs) × (k ≡ length xs))
+pub get_push : {A : Type 0} (xs : List A) (x : A) (k : ℕ) (m : A) → slice_get (xs ++ x ∷ []) k ≡ Some m
+    → ((slice_get xs k ≡ Some m) × (take k (xs ++ x ∷ []) ≡ take k xs)) ⊎ ((x ≡ m) × (take k (xs ++ x ∷ []) ≡ xs) × (k ≡ length xs))
 get_push [] x zero m e = inr (cc, refl, refl)
 get_push [] x (suc k) m e = cc
 get_push (y ∷ xs) x zero m e = inl (e, refl)

@@ -48,7 +48,8 @@ marking_first X start old new m = record {
     added zero h l = passed_level X.sides start old new m l
     added (suc i) h l = absurd (omega arith)
 
-pub marking_more : (X : Picture) → length X.sides ≡ 2 → (start c : Crack) (steps : ℕ) (old mid new : ℕ → Bool) → IsCrack X start → Marking X start c steps old mid → (c ≡ start → ⊥) → IsPassed X.sides c mid new
+pub marking_more : (X : Picture) → length X.sides ≡ 2 → (start c : Crack) (steps : ℕ) (old mid new : ℕ → Bool) → IsCrack X start
+    → Marking X start c steps old mid → (c ≡ start → ⊥) → IsPassed X.sides c mid new
     → Marking X start (successor X c) (steps + 1) old new
 marking_more X axes start c steps old mid new k m away s = record {
   reached = reached_more X axes start c steps k m.reached away;
@@ -66,12 +67,20 @@ marking_more X axes start c steps old mid new k m away s = record {
 }
 
 -- once the start comes again, the level cracks of the walk are marked
-pub marking_end : (X : Picture) (start c : Crack) (steps : ℕ) (old new : ℕ → Bool) → Marking X start c steps old new → MarksCycle X.sides (walk X start steps) old new
+pub marking_end : (X : Picture) (start c : Crack) (steps : ℕ) (old new : ℕ → Bool) → Marking X start c steps old new
+    → MarksCycle X.sides (walk X start steps) old new
 marking_end X start c steps old new m = record {
   kept = m.kept;
   added = λ x (i, l, e) level.
       let l' : i < steps = omega (arith, length-walk X steps start) in
       let q = sym (walk-get X steps start i x l') ∙ e in
       subst (λ v. new (crack_number X.sides v) ≡ true) q (m.added i l' (subst IsLevel (sym q) level));
-  none = λ j e. elim (m.none j e) [ inl a ↦ inl a | inr a ↦ inr (iterate (successor X) a.0 start, (a.0, omega (arith, length-walk X steps start, a.1), walk-get X steps start a.0 _ a.1), a.2) ];
+  none = λ j e. elim (m.none j e) [
+    | inl a ↦ inl a
+    | inr a ↦ inr (
+      iterate (successor X) a.0 start,
+      (a.0, omega (arith, length-walk X steps start, a.1), walk-get X steps start a.0 _ a.1),
+      a.2,
+    )
+  ];
 }

@@ -1,6 +1,7 @@
 -- The near neighbours of a point are exactly the points Near it, each once.
 -- Laws for any number of axes.
-use Rattle.std.proofs.Common.{◌≡◌, ℕ, zero, suc, ◌+◌, ◌≤◌, refl, ap, sym, ◌∙◌, subst, arith, List, [], ◌∷◌, length, map, Bool, true, false, cond, inl, inr, lit<}
+use Rattle.std.proofs.Common.{◌≡◌, ℕ, zero, suc, ◌+◌, ◌≤◌, refl, ap, sym, ◌∙◌, subst, arith, List, [], ◌∷◌, length, map, Bool, true, false, cond, inl, inr}
+use Rattle.std.proofs.Common.{lit<}
 use Rattle.std.specs.Prelude.{◌≢◌, AllPairs, ◌⊎◌, ℤ, pos, negsuc, ◌+ℤ◌, ◌-ℤ◌, nat_abs, Contains, All, filter, not, sum, ◌==◌}
 use Rattle.std.specs.List.{AllByRecursion, AllZip, flat_map}
 use Rattle.std.proofs.lemmas.Bool.{eqb-true}
@@ -46,10 +47,13 @@ small_cons : (d : ℕ) (y : ℤ) (v : Point) → nat_abs y ≤ 1 → IsSmall d v
 unfolding IsSmall
 small_cons d y v h s = (ap suc s.0, (h, s.1))
 
-all_flat : (d : ℕ) (vs : List Point) → AllByRecursion (IsSmall d) vs → AllByRecursion (IsSmall (suc d)) (flat_map (λ v. (negsuc 0 ∷ v) ∷ (pos 0 ∷ v) ∷ (pos 1 ∷ v) ∷ []) vs)
+all_flat : (d : ℕ) (vs : List Point) → AllByRecursion (IsSmall d) vs
+    → AllByRecursion (IsSmall (suc d)) (flat_map (λ v. (negsuc 0 ∷ v) ∷ (pos 0 ∷ v) ∷ (pos 1 ∷ v) ∷ []) vs)
 all_flat d [] a = tt
-all_flat d (v ∷ vs) a =
-    (small_cons d (negsuc 0) v (omega (arith, ints)) a.0, (small_cons d (pos 0) v (omega (arith, ints)) a.0, (small_cons d (pos 1) v (omega (arith, ints)) a.0, all_flat d vs a.1)))
+all_flat d (v ∷ vs) a = (
+  small_cons d (negsuc 0) v (omega (arith, ints)) a.0,
+  (small_cons d (pos 0) v (omega (arith, ints)) a.0, (small_cons d (pos 1) v (omega (arith, ints)) a.0, all_flat d vs a.1)),
+)
 
 all_cube : (d : ℕ) → AllByRecursion (IsSmall d) (cube_steps d)
 unfolding IsSmall
@@ -78,12 +82,14 @@ some_length n h = by_test (n == 0) refl
     by_test true e = absurd (h (eqb-true n 0 e))
     by_test false e = ap not e
 
-all_near : (p : Point) (vs : List Point) → AllByRecursion (IsSmall (length p)) vs → AllByRecursion (Near p) (map (moved p) (filter (λ v. not (sum (map nat_abs v) == 0)) vs))
+all_near : (p : Point) (vs : List Point) → AllByRecursion (IsSmall (length p)) vs
+    → AllByRecursion (Near p) (map (moved p) (filter (λ v. not (sum (map nat_abs v) == 0)) vs))
 all_near p [] a = tt
 all_near p (v ∷ vs) a = by_test (not (sum (map nat_abs v) == 0)) refl (all_near p vs a.1)
   where
     by_test : (b : Bool) → not (sum (map nat_abs v) == 0) ≡ b → AllByRecursion (Near p) (map (moved p) (filter (λ w. not (sum (map nat_abs w) == 0)) vs))
-        → AllByRecursion (Near p) (map (moved p) (cond b (v ∷ filter (λ w. not (sum (map nat_abs w) == 0)) vs) (filter (λ w. not (sum (map nat_abs w) == 0)) vs)))
+        → AllByRecursion (Near p)
+        (map (moved p) (cond b (v ∷ filter (λ w. not (sum (map nat_abs w) == 0)) vs) (filter (λ w. not (sum (map nat_abs w) == 0)) vs)))
     by_test true e r = (near_by_step p v a.0 (not_zero (sum (map nat_abs v)) e), r)
     by_test false e r = r
 
@@ -116,7 +122,8 @@ step_to (x ∷ p) (y ∷ q) h = of_step (step_to p q h.1)
         let b : nat_abs (y -ℤ x) ≤ 1 = omega (arith, ints, h.0) in
         let f : x +ℤ (y -ℤ x) ≡ y = omega (arith, ints) in (
           (y -ℤ x) ∷ v,
-          Contains-flat_map (λ w. (negsuc 0 ∷ w) ∷ (pos 0 ∷ w) ∷ (pos 1 ∷ w) ∷ []) (cube_steps (length p)) v ((y -ℤ x) ∷ v) c (among (y -ℤ x) v (by_first (y -ℤ x) b)),
+          Contains-flat_map (λ w. (negsuc 0 ∷ w) ∷ (pos 0 ∷ w) ∷ (pos 1 ∷ w) ∷ []) (cube_steps (length p)) v ((y -ℤ x) ∷ v) c
+              (among (y -ℤ x) v (by_first (y -ℤ x) b)),
           ap suc l,
           λ i. f i ∷ e i,
         )
@@ -128,13 +135,17 @@ near_listed p q h = of_step (step_to p q h.1)
     of_step : (v : Point) × Contains (cube_steps (length p)) v × (length v ≡ length p) × (moved p v ≡ q) → Contains (near_points p) q
     of_step (v, c, l, e) =
         let n : sum (map nat_abs v) ≡ 0 → ⊥ = λ z. h.0 (sym (stays p v l z) ∙ e) in
-        subst (λ w. Contains (near_points p) w) e (Contains-map (moved p) (near_steps (length p)) v (Contains-filter (λ w. not (sum (map nat_abs w) == 0)) (cube_steps (length p)) v c (some_length (sum (map nat_abs v)) n)))
+        subst (λ w. Contains (near_points p) w) e
+        (Contains-map (moved p) (near_steps (length p)) v
+        (Contains-filter (λ w. not (sum (map nat_abs w) == 0)) (cube_steps (length p)) v c (some_length (sum (map nat_abs v)) n)))
 
 -- ---- each of them stands there once
 
-other_tails : (a : ℤ) (v : Point) (vs : List Point) → AllByRecursion (λ w. v ≢ w) vs → AllByRecursion (λ u. (a ∷ v) ≢ u) (flat_map (λ w. (negsuc 0 ∷ w) ∷ (pos 0 ∷ w) ∷ (pos 1 ∷ w) ∷ []) vs)
+other_tails : (a : ℤ) (v : Point) (vs : List Point) → AllByRecursion (λ w. v ≢ w) vs
+    → AllByRecursion (λ u. (a ∷ v) ≢ u) (flat_map (λ w. (negsuc 0 ∷ w) ∷ (pos 0 ∷ w) ∷ (pos 1 ∷ w) ∷ []) vs)
 other_tails a v [] h = tt
-other_tails a v (w ∷ vs) h = ((λ e. h.0 (tail_of (negsuc 0) w e)), ((λ e. h.0 (tail_of (pos 0) w e)), ((λ e. h.0 (tail_of (pos 1) w e)), other_tails a v vs h.1)))
+other_tails a v (w ∷ vs) h =
+    ((λ e. h.0 (tail_of (negsuc 0) w e)), ((λ e. h.0 (tail_of (pos 0) w e)), ((λ e. h.0 (tail_of (pos 1) w e)), other_tails a v vs h.1)))
   where
     tail_of : (b : ℤ) (w : Point) → (a ∷ v) ≡ (b ∷ w) → v ≡ w
     tail_of b w e = cc
@@ -155,7 +166,8 @@ unfolding Apart
 apart_cube zero = (tt, tt)
 apart_cube (suc d) = apart_flat (cube_steps d) (apart_cube d)
 
-apart_near : (p : Point) (vs : List Point) → AllByRecursion (IsSmall (length p)) vs → Apart vs → Apart (map (moved p) (filter (λ v. not (sum (map nat_abs v) == 0)) vs))
+apart_near : (p : Point) (vs : List Point) → AllByRecursion (IsSmall (length p)) vs → Apart vs
+    → Apart (map (moved p) (filter (λ v. not (sum (map nat_abs v) == 0)) vs))
 unfolding Apart IsSmall
 apart_near p [] a h = tt
 apart_near p (v ∷ vs) a h = by_test (not (sum (map nat_abs v) == 0)) (apart_near p vs a.1 h.1)
@@ -166,7 +178,8 @@ apart_near p (v ∷ vs) a h = by_test (not (sum (map nat_abs v) == 0)) (apart_ne
     apart_from (w ∷ ws) b g = by_other (not (sum (map nat_abs w) == 0)) (apart_from ws b.1 g.1)
       where
         by_other : (t : Bool) → AllByRecursion (λ q. moved p v ≢ q) (map (moved p) (filter (λ u. not (sum (map nat_abs u) == 0)) ws))
-            → AllByRecursion (λ q. moved p v ≢ q) (map (moved p) (cond t (w ∷ filter (λ u. not (sum (map nat_abs u) == 0)) ws) (filter (λ u. not (sum (map nat_abs u) == 0)) ws)))
+            → AllByRecursion (λ q. moved p v ≢ q)
+            (map (moved p) (cond t (w ∷ filter (λ u. not (sum (map nat_abs u) == 0)) ws) (filter (λ u. not (sum (map nat_abs u) == 0)) ws)))
         by_other true r = ((λ e. g.0 (same_step p v w a.0.0 b.0.0 e)), r)
         by_other false r = r
 

@@ -26,12 +26,15 @@ stand_in_background X r i t b = elim (cases_Bool (in_box X.sides (framed_point X
 ]
 
 -- where no background point of the framed box is nearer than s, none of the whole space is
-pub none_nearer : (X : Picture) (p : Point) (s : ℕ) → IsTrue (in_box X.sides p) → ((i : ℕ) → i < box_count (framed_sides X.sides) → at X (framed_point X.sides i) ≡ false → s ≤ squared_distance p (framed_point X.sides i)) → (r : Point) → IsBackground X r → s ≤ squared_distance p r
+pub none_nearer : (X : Picture) (p : Point) (s : ℕ) → IsTrue (in_box X.sides p)
+    → ((i : ℕ) → i < box_count (framed_sides X.sides) → at X (framed_point X.sides i) ≡ false → s ≤ squared_distance p (framed_point X.sides i)) → (r : Point)
+    → IsBackground X r → s ≤ squared_distance p r
 none_nearer X p s h all r c =
     let t = stand_in X.sides r c.point in
     omega (arith, all t.0 t.1.below (stand_in_background X r t.0 t.1 c.value), t.1.nearer p h)
 
-pub least_found : (X : Picture) (p q : Point) (s : ℕ) → IsTrue (in_box X.sides p) → IsBackground X q → s ≡ squared_distance p q → ((i : ℕ) → i < box_count (framed_sides X.sides) → at X (framed_point X.sides i) ≡ false → s ≤ squared_distance p (framed_point X.sides i)) → Least X p q s
+pub least_found : (X : Picture) (p q : Point) (s : ℕ) → IsTrue (in_box X.sides p) → IsBackground X q → s ≡ squared_distance p q
+    → ((i : ℕ) → i < box_count (framed_sides X.sides) → at X (framed_point X.sides i) ≡ false → s ≤ squared_distance p (framed_point X.sides i)) → Least X p q s
 least_found X p q s h b e all = record {
   background = b;
   distance = e;

@@ -20,7 +20,8 @@ number_of p vs q (k, h, e) =
     (k, l, sym (at_place p vs k l) ∙ (get_or_default (map (moved p) vs) k [] q h ∙ e))
 
 -- steps that lead to distinct points have one number each
-one_number : (p : Point) (vs : List Point) (j k : ℕ) → AllPairs (λ x y. x ≢ y) (map (moved p) vs) → j < length vs → k < length vs → moved p (get_or vs j []) ≡ moved p (get_or vs k []) → j ≡ k
+one_number : (p : Point) (vs : List Point) (j k : ℕ) → AllPairs (λ x y. x ≢ y) (map (moved p) vs) → j < length vs → k < length vs
+    → moved p (get_or vs j []) ≡ moved p (get_or vs k []) → j ≡ k
 one_number p vs j k apart l r e =
     let n = length-map vs (moved p) in
     let f : get_or (map (moved p) vs) j [] ≡ get_or (map (moved p) vs) k [] = at_place p vs j l ∙ (e ∙ sym (at_place p vs k r)) in

@@ -32,18 +32,25 @@ module _ (X : Picture) where
   next_by zero n i e l h = absurd (none_some _ _ (sym (none_left X n (omega arith)) ∙ h))
   next_by (suc k) n i e l h = go (λ f. next_by k (n + 1) i (omega arith) l f) (get_or X.values n false) refl
     where
-      go : (objects_from X (n + 1) ≡ raster_point X.sides i ∷ objects_from X (i + 1) → IsNext X (n + 1) i) → (b : Bool) → get_or X.values n false ≡ b → IsNext X n i
+      go : (objects_from X (n + 1) ≡ raster_point X.sides i ∷ objects_from X (i + 1) → IsNext X (n + 1) i) → (b : Bool) → get_or X.values n false ≡ b
+          → IsNext X n i
       go later true v =
           let m : n < box_count X.sides = omega arith in
           let p : raster_point X.sides n ≡ raster_point X.sides i = ap (λ (s : List Point). get_or s 0 []) (sym (objects_next X n m v) ∙ h) in
           let q : n ≡ i = sym (raster_number-raster_point X.sides n m) ∙ (ap (raster_number X.sides) p ∙ raster_number-raster_point X.sides i l) in
-          record { low = omega arith; object = subst (λ j. at X (raster_point X.sides j) ≡ true) q (at_raster_point X n m ∙ v); blank = λ j a b. absurd (omega arith) }
+          record {
+            low = omega arith;
+            object = subst (λ j. at X (raster_point X.sides j) ≡ true) q (at_raster_point X n m ∙ v);
+            blank =
+                λ j a b. absurd (omega arith);
+          }
       go later false v =
           let m : n < box_count X.sides = omega arith in
           let r = later (sym (objects_skip X n m v) ∙ h) in
           record { low = (let a = r.low in omega arith); object = r.object; blank = one_more X n i (at_raster_point X n m ∙ v) r.blank }
 
-  pub next_object : (n i : ℕ) → n ≤ box_count X.sides → i < box_count X.sides → objects_from X n ≡ raster_point X.sides i ∷ objects_from X (i + 1) → IsNext X n i
+  pub next_object : (n i : ℕ) → n ≤ box_count X.sides → i < box_count X.sides → objects_from X n ≡ raster_point X.sides i ∷ objects_from X (i + 1)
+      → IsNext X n i
   next_object n i a l h = next_by (box_count X.sides - n) n i (omega arith) l h
 
   blank_by : (k n : ℕ) → n + k ≡ box_count X.sides → objects_from X n ≡ [] → AreBlank X n (box_count X.sides)

@@ -27,7 +27,8 @@ is_numbered X c k =
     let s = k.side in
     let q : crack_number X.sides c / 4 ≡ raster_number X.sides c.pixel = omega arith in
     let r : crack_number X.sides c % 4 ≡ c.side = omega arith in
-    let p : c.pixel ≡ raster_point X.sides (crack_number X.sides c / 4) = sym (ap (raster_point X.sides) q ∙ raster_point-raster_number X.sides c.pixel (object_in_box X c.pixel k.pixel)) in
+    let p : c.pixel ≡ raster_point X.sides (crack_number X.sides c / 4) =
+    sym (ap (raster_point X.sides) q ∙ raster_point-raster_number X.sides c.pixel (object_in_box X c.pixel k.pixel)) in
     λ i. record { pixel = p i; side = sym r i }
 
 pub number_once : (X : Picture) (c d : Crack) → IsCrack X c → IsCrack X d → crack_number X.sides c ≡ crack_number X.sides d → c ≡ d
@@ -44,7 +45,10 @@ number_rises X c d k l h =
       | yes m ↦ inl (raster_rises X.sides c.pixel d.pixel ci di ∙ nat_less (raster_number X.sides c.pixel) (raster_number X.sides d.pixel) m)
       | no m ↦
           (let e : raster_number X.sides c.pixel ≡ raster_number X.sides d.pixel = omega arith in
-          inr (sym (raster_point-raster_number X.sides c.pixel ci) ∙ (ap (raster_point X.sides) e ∙ raster_point-raster_number X.sides d.pixel di), omega arith))
+          inr (
+            sym (raster_point-raster_number X.sides c.pixel ci) ∙ (ap (raster_point X.sides) e ∙ raster_point-raster_number X.sides d.pixel di),
+            omega arith,
+          ))
     ]
 
 -- the number of the crack of a number

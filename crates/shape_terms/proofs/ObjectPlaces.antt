@@ -47,23 +47,34 @@ module _ (X : Picture) where
       let near : Near p q = near_of_number p k (subst (λ n. k < length (near_steps n)) (sym (length-raster_point X.sides i)) l) in
       (subst (ObjectPlace X) t.1 o.0, subst (λ r. Near p r) (sym o.1 ∙ ap (raster_point X.sides) t.1) near)
 
-  object_complete : (i j : ℕ) → ObjectPlace X i → ObjectPlace X j → NearPlaces X i j → (k : ℕ) × (k < length (near_steps (length X.sides))) × (object_link X i k ≡ Some j)
+  object_complete : (i j : ℕ) → ObjectPlace X i → ObjectPlace X j → NearPlaces X i j → (k : ℕ) × (k < length (near_steps (length X.sides)))
+      × (object_link X i k ≡ Some j)
   object_complete i j a b near =
       let n = near_number (raster_point X.sides i) (raster_point X.sides j) near in (
         n.0,
         subst (λ m. n.0 < length (near_steps m)) (length-raster_point X.sides i) n.1,
-        ap (object_place X) n.2 ∙ (place_named (at X (raster_point X.sides j)) (raster_number X.sides (raster_point X.sides j)) b.1 ∙ ap (λ m. Some m) (raster_number-raster_point X.sides j b.0)),
+        ap (object_place X) n.2
+            ∙ (place_named (at X (raster_point X.sides j)) (raster_number X.sides (raster_point X.sides j)) b.1
+            ∙ ap (λ m. Some m) (raster_number-raster_point X.sides j b.0)),
       )
 
   pub object_net : IsNet (box_count X.sides) (ObjectPlace X) (NearPlaces X) (length (near_steps (length X.sides))) (object_link X)
-  object_net = record { bounded = λ i h. h.0; symmetric = λ i j. near_sym (raster_point X.sides i) (raster_point X.sides j); sound = object_sound; complete = object_complete }
+  object_net = record {
+    bounded = λ i h. h.0;
+    symmetric = λ i j. near_sym (raster_point X.sides i) (raster_point X.sides j);
+    sound = object_sound;
+    complete =
+        object_complete;
+  }
 
   -- the labels of the places name the components of the object
   pub object_parts : (n : ℕ) (f : ℕ → ℕ) → NamesParts (NearPlaces X) (ObjectPlace X) n f → NamesParts Near (Object X) n (λ p. f (raster_number X.sides p))
-  object_parts n f p = parts_along Near (ObjectPlace X) (Object X) (raster_point X.sides) (raster_number X.sides) (λ i h. h.1) of_object (λ i h. raster_number-raster_point X.sides i h.0) n f p
+  object_parts n f p = parts_along Near (ObjectPlace X) (Object X) (raster_point X.sides) (raster_number X.sides) (λ i h. h.1) of_object
+      (λ i h. raster_number-raster_point X.sides i h.0) n f p
 
   -- labels of all places in order, with the label 0 where there is no object
-  pub labels_object : (n : ℕ) (labels : List ℕ) → length labels ≡ box_count X.sides → ((i : ℕ) → 1 ≤ slice_index labels i → ObjectPlace X i) → InOrder labels → NamesParts (NearPlaces X) (ObjectPlace X) n (slice_index labels) → LabelsObject X labels
+  pub labels_object : (n : ℕ) (labels : List ℕ) → length labels ≡ box_count X.sides → ((i : ℕ) → 1 ≤ slice_index labels i → ObjectPlace X i) → InOrder labels
+      → NamesParts (NearPlaces X) (ObjectPlace X) n (slice_index labels) → LabelsObject X labels
   labels_object n labels filled members ordered p = record {
     filled = filled;
     background = λ i l e. elim (dec_lt 0 (slice_index labels i)) [

@@ -61,7 +61,8 @@ rounded_least m w x n s e h =
     ]
 
 -- g at j is the higher one at 0
-pub first_above : (f i g j t m w x : ℕ) → j ≡ i + t → w ≡ 2 * t → (f + i * i) + m ≡ g + j * j → 0 < m → m ≤ w * x → ((n : ℕ) → m ≤ w * n → x ≤ n) → IsFirstBetter f i g j (pos x)
+pub first_above : (f i g j t m w x : ℕ) → j ≡ i + t → w ≡ 2 * t → (f + i * i) + m ≡ g + j * j → 0 < m → m ≤ w * x → ((n : ℕ) → m ≤ w * n → x ≤ n)
+    → IsFirstBetter f i g j (pos x)
 first_above f i g j t m w x e d s some enough least = record {
   better = is_better f i g j t (pos x) e (omega (arith, ints, above_reached m w t x d enough));
   first = λ y h. above_first m w t x y (f + i * i) (g + j * j) d s some least (better_is f i g j t y e h);
@@ -70,7 +71,8 @@ first_above f i g j t m w x e d s some enough least = record {
     above_reached : (m w t x : ℕ) → w ≡ 2 * t → m ≤ w * x → m ≤ t * x + t * x
     above_reached m w t x d h = let p = ap (λ n. n * x) d in omega arith
 
-    above_first : (m w t x : ℕ) (y : ℤ) (a b : ℕ) → w ≡ 2 * t → a + m ≡ b → 0 < m → ((n : ℕ) → m ≤ w * n → x ≤ n) → pos b ≤ℤ (pos a +ℤ (pos t *ℤ y +ℤ pos t *ℤ y)) → pos x ≤ℤ y
+    above_first : (m w t x : ℕ) (y : ℤ) (a b : ℕ) → w ≡ 2 * t → a + m ≡ b → 0 < m → ((n : ℕ) → m ≤ w * n → x ≤ n)
+        → pos b ≤ℤ (pos a +ℤ (pos t *ℤ y +ℤ pos t *ℤ y)) → pos x ≤ℤ y
     above_first m w t x (pos n) a b d s some least h =
         let p = ap (λ k. k * n) d in
         let l : x ≤ n = least n (omega (arith, ints)) in
@@ -94,7 +96,8 @@ first_below f i g j t m w q e d some s is = record {
         let p = ap (λ k. k * suc q) d in
         omega (arith, ints)
 
-    below_first : (m w t q : ℕ) (y : ℤ) (a b : ℕ) → w ≡ 2 * t → 0 < w → b + m ≡ a → q ≡ m / w → pos b ≤ℤ (pos a +ℤ (pos t *ℤ y +ℤ pos t *ℤ y)) → neg_ℤ (pos q) ≤ℤ y
+    below_first : (m w t q : ℕ) (y : ℤ) (a b : ℕ) → w ≡ 2 * t → 0 < w → b + m ≡ a → q ≡ m / w → pos b ≤ℤ (pos a +ℤ (pos t *ℤ y +ℤ pos t *ℤ y))
+        → neg_ℤ (pos q) ≤ℤ y
     below_first m w t q (pos n) a b d some s is h = omega (arith, ints)
     below_first m w t q (negsuc n) a b d some s is h =
         let p = ap (λ k. k * suc n) d in

@@ -10,7 +10,8 @@ use Rattle.shape_terms.specs.Parts.{Connected, NamesParts, HasParts}
 use Rattle.shape_terms.proofs.Paths.{starts_in}
 
 -- a label is the same along a path
-pub along_path : {A : Type 0} {R : A → A → Type 0} {Y : A → Type 0} {p q : A} → (f : A → ℕ) → ((x y : A) → Y x → Y y → R x y → f x ≡ f y) → Connected R Y p q → f p ≡ f q
+pub along_path : {A : Type 0} {R : A → A → Type 0} {Y : A → Type 0} {p q : A} → (f : A → ℕ) → ((x y : A) → Y x → Y y → R x y → f x ≡ f y) → Connected R Y p q
+    → f p ≡ f q
 along_path f h (Connected.here y) = refl
 along_path f h (Connected.onward {p = p} {q = q} y s c) = h p q y (starts_in c) s ∙ along_path f h c
 
@@ -28,7 +29,10 @@ module _ {A : Type 0} (R : A → A → Type 0) (Y : A → Type 0) (n m : ℕ) (f
   in_set : (k : ℕ) (h : k ≤ n) → AllByRecursion (λ x. Y x × (f x ≤ k)) (points_upto k h)
   unfolding points_upto
   in_set zero h = tt
-  in_set (suc k) h = (((F.used (suc k) (omega arith) h).1, (omega (arith, (F.used (suc k) (omega arith) h).2))), wider (points_upto k (omega arith)) (in_set k (omega arith)))
+  in_set (suc k) h = (
+    ((F.used (suc k) (omega arith) h).1, (omega (arith, (F.used (suc k) (omega arith) h).2))),
+    wider (points_upto k (omega arith)) (in_set k (omega arith)),
+  )
     where
       wider : (xs : List A) → AllByRecursion (λ x. Y x × (f x ≤ k)) xs → AllByRecursion (λ x. Y x × (f x ≤ suc k)) xs
       wider [] a = tt
@@ -48,7 +52,8 @@ module _ {A : Type 0} (R : A → A → Type 0) (Y : A → Type 0) (n m : ℕ) (f
   unfolding points_upto IsDistinct
   distinct zero h = tt
   distinct (suc k) h = (
-    fresh (F.used (suc k) (omega arith) h).0 (F.used (suc k) (omega arith) h).1 k (F.used (suc k) (omega arith) h).2 (points_upto k (omega arith)) (in_set k (omega arith)),
+    fresh (F.used (suc k) (omega arith) h).0 (F.used (suc k) (omega arith) h).1 k (F.used (suc k) (omega arith) h).2 (points_upto k (omega arith))
+        (in_set k (omega arith)),
     distinct k (omega arith),
   )
 
@@ -56,7 +61,8 @@ module _ {A : Type 0} (R : A → A → Type 0) (Y : A → Type 0) (n m : ℕ) (f
   below [] k a q h = cc
   below (x ∷ xs) k a q h = of_cases (or_cases (eqb q (g x - 1)) (list_any (eqb q) (map (λ y. g y - 1) xs)) h) (below xs k a.1 q)
     where
-      of_cases : (eqb q (g x - 1) ≡ true) ⊎ (list_any (eqb q) (map (λ y. g y - 1) xs) ≡ true) → (list_any (eqb q) (map (λ y. g y - 1) xs) ≡ true → q < m) → q < m
+      of_cases : (eqb q (g x - 1) ≡ true) ⊎ (list_any (eqb q) (map (λ y. g y - 1) xs) ≡ true) → (list_any (eqb q) (map (λ y. g y - 1) xs) ≡ true → q < m)
+          → q < m
       of_cases (inl e) r = let b = eqb-true q (g x - 1) e in omega (arith, G.in_range x a.0.0)
       of_cases (inr e) r = r e
 
@@ -64,7 +70,8 @@ module _ {A : Type 0} (R : A → A → Type 0) (Y : A → Type 0) (n m : ℕ) (f
   no_more_by h =
       let l : length (points_upto n h) ≡ n = length_points n h in
       let e : length (map (λ x. g x - 1) (points_upto n h)) ≡ length (points_upto n h) = length-map (points_upto n h) (λ x. g x - 1) in
-      let b : length (map (λ x. g x - 1) (points_upto n h)) ≤ m = length-le_from_distinct_below (map (λ x. g x - 1) (points_upto n h)) m (distinct n h) (below (points_upto n h) n (in_set n h)) in
+      let b : length (map (λ x. g x - 1) (points_upto n h)) ≤ m = length-le_from_distinct_below (map (λ x. g x - 1) (points_upto n h)) m (distinct n h)
+      (below (points_upto n h) n (in_set n h)) in
       omega arith
 
   no_more : n ≤ m

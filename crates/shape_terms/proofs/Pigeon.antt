@@ -7,7 +7,8 @@ use Rattle.std.proofs.lemmas.Bool.Decides.{nat_tests}
 abbrev closed : (ℕ → ℕ) → ℕ → ℕ → ℕ → ℕ
 closed f n m k = cond (eqb (f k) m) (f n) (f k)
 
-closed_below : (f : ℕ → ℕ) (n m k : ℕ) → k < n → ((i : ℕ) → i < suc n → f i < suc m) → ((i j : ℕ) → i < suc n → j < suc n → f i ≡ f j → i ≡ j) → closed f n m k < m
+closed_below : (f : ℕ → ℕ) (n m k : ℕ) → k < n → ((i : ℕ) → i < suc n → f i < suc m) → ((i j : ℕ) → i < suc n → j < suc n → f i ≡ f j → i ≡ j)
+    → closed f n m k < m
 closed_below f n m k h below inj = grind (arith, nat_tests, below k, below n, inj k n)
 
 closed_once : (f : ℕ → ℕ) (n m i j : ℕ) → i < n → j < n → ((i j : ℕ) → i < suc n → j < suc n → f i ≡ f j → i ≡ j) → closed f n m i ≡ closed f n m j → i ≡ j

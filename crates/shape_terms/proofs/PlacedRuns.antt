@@ -19,27 +19,33 @@ pub record IsPlaced (path : List Point) (m : ℕ) (before : List Stretch) (s : S
   pub closes : length before + 1 ≡ m → s.last < (get_or (before ++ s ∷ []) 0 s).last + length path
 
 module _ (S : List Point → Type 0) (is : IsStraightness S) (path : List Point) (stretches : List Stretch) (g : AreRunsWithGaps S path stretches) where
-  after : (k : ℕ) → k < length stretches → IfSome (slice_get (take k stretches) (length (take k stretches) - 1)) (λ r. (r.first < (stretch_at stretches k).first) × (r.last < (stretch_at stretches k).last))
+  after : (k : ℕ) → k < length stretches
+      → IfSome (slice_get (take k stretches) (length (take k stretches) - 1))
+      (λ r. (r.first < (stretch_at stretches k).first) × (r.last < (stretch_at stretches k).last))
   after zero l = tt
   after (suc k) l =
       let n : length (take (suc k) stretches) ≡ suc k = length-take-le (suc k) stretches (omega arith) in
       let q : length (take (suc k) stretches) - 1 ≡ k = omega arith in
       let o : slice_get (take (suc k) stretches) (length (take (suc k) stretches) - 1) ≡ Some (stretch_at stretches k) =
-      ap (slice_get (take (suc k) stretches)) q ∙ (slice_get-get_or (take (suc k) stretches) k _ (omega arith) ∙ ap Some (get_or-take (suc k) stretches k _ (omega arith))) in
+      ap (slice_get (take (suc k) stretches)) q
+      ∙ (slice_get-get_or (take (suc k) stretches) k _ (omega arith) ∙ ap Some (get_or-take (suc k) stretches k _ (omega arith))) in
       let next : k + 1 ≡ suc k = omega arith in
       let b = g.first_rises k (omega arith) in
       let e = g.last_rises k (omega arith) in
       let b' = ap (λ j. (stretch_at stretches j).first) next in
       let e' = ap (λ j. (stretch_at stretches j).last) next in
-      let h : ((stretch_at stretches k).first < (stretch_at stretches (suc k)).first) × ((stretch_at stretches k).last < (stretch_at stretches (suc k)).last) = (omega arith, omega arith) in
+      let h : ((stretch_at stretches k).first < (stretch_at stretches (suc k)).first) × ((stretch_at stretches k).last < (stretch_at stretches (suc k)).last) =
+      (omega arith, omega arith) in
       rw o h
 
-  closes : (k : ℕ) (s : Stretch) → k < length stretches → s ≡ stretch_at stretches k → length (take k stretches) + 1 ≡ length stretches → s.last < (get_or (take k stretches ++ s ∷ []) 0 s).last + length path
+  closes : (k : ℕ) (s : Stretch) → k < length stretches → s ≡ stretch_at stretches k → length (take k stretches) + 1 ≡ length stretches
+      → s.last < (get_or (take k stretches ++ s ∷ []) 0 s).last + length path
   closes zero s l e h = let b = g.begins 0 l in omega arith
   closes (suc k) s l e h =
       let n : length (take (suc k) stretches) ≡ suc k = length-take-le (suc k) stretches (omega arith) in
       let first : get_or (take (suc k) stretches ++ s ∷ []) 0 s ≡ stretch_at stretches 0 =
-      get_or_append_left (take (suc k) stretches) (s ∷ []) s 0 (omega arith) ∙ (get_or-take (suc k) stretches 0 s (omega arith) ∙ get_or_default stretches 0 s _ (omega arith)) in
+      get_or_append_left (take (suc k) stretches) (s ∷ []) s 0 (omega arith)
+      ∙ (get_or-take (suc k) stretches 0 s (omega arith) ∙ get_or_default stretches 0 s _ (omega arith)) in
       let q : length stretches - 1 ≡ suc k = omega arith in
       let a = ap (λ (s : Stretch). s.last) first in
       let b = ap (λ j. (stretch_at stretches j).last) q in
@@ -73,15 +79,18 @@ module _ (S : List Point → Type 0) (is : IsStraightness S) (path : List Point)
       let b = g.begins (length stretches - 1) l in
       omega arith
 
-module _ (path : List Point) (stretches : List Stretch) (some : 1 ≤ length stretches) (each : (k : ℕ) → k < length stretches → IsPlaced path (length stretches) (take k stretches) (stretch_at stretches k)) where
-  pub placed_rise : (k : ℕ) → k + 1 < length stretches → ((stretch_at stretches k).first < (stretch_at stretches (k + 1)).first) × ((stretch_at stretches k).last < (stretch_at stretches (k + 1)).last)
+module _ (path : List Point) (stretches : List Stretch) (some : 1 ≤ length stretches)
+    (each : (k : ℕ) → k < length stretches → IsPlaced path (length stretches) (take k stretches) (stretch_at stretches k)) where
+  pub placed_rise : (k : ℕ) → k + 1 < length stretches → ((stretch_at stretches k).first < (stretch_at stretches (k + 1)).first)
+      × ((stretch_at stretches k).last < (stretch_at stretches (k + 1)).last)
   placed_rise k h =
       let s = stretch_at stretches k in
       let u = stretch_at stretches (k + 1) in
       let n : length (take (k + 1) stretches) - 1 ≡ k = omega (arith, length-take-le (k + 1) stretches (omega arith)) in
       let q : k + 1 ≡ suc k = omega arith in
       let e : slice_get (take (k + 1) stretches) (length (take (k + 1) stretches) - 1) ≡ Some s =
-      ap (slice_get (take (k + 1) stretches)) n ∙ (ap (λ j. slice_get (take j stretches) k) q ∙ (slice_get-taken stretches k ∙ slice_get-get_or stretches k _ (omega arith))) in
+      ap (slice_get (take (k + 1) stretches)) n
+      ∙ (ap (λ j. slice_get (take j stretches) k) q ∙ (slice_get-taken stretches k ∙ slice_get-get_or stretches k _ (omega arith))) in
       subst (λ o. IfSome o (λ x. (x.first < u.first) × (x.last < u.last))) e (each (k + 1) h).after
 
   pub placed_close : (stretch_at stretches (length stretches - 1)).last < (stretch_at stretches 0).last + length path

@@ -51,14 +51,16 @@ other_stays before after x y n c = elim (Contains-append_cases before (y ∷ aft
 ]
 
 -- elements of a list that are apart are fewer than its elements where one of these is not among them
-fewer : {A : Type 0} (xs ys : List A) (y : A) → AllPairs (λ a b. a ≢ b) xs → ((x : A) → Contains xs x → Contains ys x) → Contains ys y → (Contains xs y → ⊥) → length xs < length ys
+fewer : {A : Type 0} (xs ys : List A) (y : A) → AllPairs (λ a b. a ≢ b) xs → ((x : A) → Contains xs x → Contains ys x) → Contains ys y → (Contains xs y → ⊥)
+    → length xs < length ys
 fewer [] ys y once each there out =
     let w = without ys y there in
     omega (arith, ap length w.is, length-append w.before (y ∷ w.after))
 fewer (x ∷ xs) ys y once each there out =
     let w = without ys x (each x (head_in x xs)) in
     let more = fewer xs (w.before ++ w.after) y (pairs-tail (λ a b. a ≢ b) x xs once)
-    (λ z c. other_stays w.before w.after z x (All-contains (λ b. x ≢ b) xs z (pairs-head (λ a b. a ≢ b) x xs once) c) (subst (λ l. Contains l z) w.is (each z (later_in x xs z c))))
+    (λ z c. other_stays w.before w.after z x (All-contains (λ b. x ≢ b) xs z (pairs-head (λ a b. a ≢ b) x xs once) c)
+    (subst (λ l. Contains l z) w.is (each z (later_in x xs z c))))
     (other_stays w.before w.after y x (λ e. out (subst (Contains (x ∷ xs)) e (head_in x xs))) (subst (λ l. Contains l y) w.is there))
     (λ c. out (later_in x xs y c)) in
     omega (arith, more, ap length w.is, length-append w.before (x ∷ w.after), length-append w.before w.after)
@@ -69,11 +71,13 @@ no_more [] ys once each = omega arith
 no_more (x ∷ xs) ys once each =
     let w = without ys x (each x (head_in x xs)) in
     let more = no_more xs (w.before ++ w.after) (pairs-tail (λ a b. a ≢ b) x xs once)
-    (λ z c. other_stays w.before w.after z x (All-contains (λ b. x ≢ b) xs z (pairs-head (λ a b. a ≢ b) x xs once) c) (subst (λ l. Contains l z) w.is (each z (later_in x xs z c)))) in
+    (λ z c. other_stays w.before w.after z x (All-contains (λ b. x ≢ b) xs z (pairs-head (λ a b. a ≢ b) x xs once) c)
+    (subst (λ l. Contains l z) w.is (each z (later_in x xs z c)))) in
     omega (arith, more, ap length w.is, length-append w.before (x ∷ w.after), length-append w.before w.after)
 
 -- as many points of a list as it has, all apart, are all its points
-pub all_there : (xs ys : List Point) → AllPairs (λ p q. p ≢ q) xs → ((p : Point) → Contains xs p → Contains ys p) → length xs ≡ length ys → (p : Point) → Contains ys p → Contains xs p
+pub all_there : (xs ys : List Point) → AllPairs (λ p q. p ≢ q) xs → ((p : Point) → Contains xs p → Contains ys p) → length xs ≡ length ys → (p : Point)
+    → Contains ys p → Contains xs p
 all_there xs ys once each same p c = elim (is_there xs p) [
   | yes h ↦ h
   | no n ↦ absurd (let f = fewer xs ys p once each c n in omega (arith, f, same))

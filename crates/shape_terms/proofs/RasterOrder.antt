@@ -57,7 +57,8 @@ digits n a b x y h k = elim (cases_lt a b) [
       ]
     ])
 
-pub raster_rises : (sides : List ℕ) (p q : Point) → IsTrue (in_box sides p) → IsTrue (in_box sides q) → raster_cmp p q ≡ nat_cmp (raster_number sides p) (raster_number sides q)
+pub raster_rises : (sides : List ℕ) (p q : Point) → IsTrue (in_box sides p) → IsTrue (in_box sides q)
+    → raster_cmp p q ≡ nat_cmp (raster_number sides p) (raster_number sides q)
 raster_rises [] [] [] h k = refl
 raster_rises [] [] (y ∷ q) h k = cc
 raster_rises [] (x ∷ p) q h k = cc

@@ -22,7 +22,8 @@ round_bits p k l =
     )
 
 -- where the number is known
-known : (d n total : ℕ) → round_set d ≡ n → length (near_steps d) ≡ total → (p : Point) (k : ℕ) → length p ≡ d → k < total → (bit_at n k ≡ 1) ↔ Round p (near_point p k)
+known : (d n total : ℕ) → round_set d ≡ n → length (near_steps d) ≡ total → (p : Point) (k : ℕ) → length p ≡ d → k < total
+    → (bit_at n k ≡ 1) ↔ Round p (near_point p k)
 known d n total is count p k e l = subst (λ m. (bit_at m k ≡ 1) ↔ Round p (near_point p k)) is (at_axes d e (subst (λ t. k < t) (sym count) l))
   where
     at_axes : (d : ℕ) → length p ≡ d → k < length (near_steps d) → (bit_at (round_set d) k ≡ 1) ↔ Round p (near_point p k)

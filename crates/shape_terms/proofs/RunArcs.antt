@@ -37,7 +37,11 @@ module _ (S : List Point → Type 0) (is : IsStraightness S) (path : List Point)
 
   -- the two forms of maximal runs
   pub maximal_from : (b e : ℕ) → IsMaximalRun S path b e → Maximal (length path) Straight b e
-  maximal_from b e m = (m.straight, (λ s. m.before (subst (λ v. Straight v (e + length path)) (let q : pred (b + length path) ≡ b + length path - 1 = omega arith in q) s)), λ s. m.after (subst (Straight b) (let q : suc e ≡ e + 1 = omega arith in q) s))
+  maximal_from b e m = (
+    m.straight,
+    (λ s. m.before (subst (λ v. Straight v (e + length path)) (let q : pred (b + length path) ≡ b + length path - 1 = omega arith in q) s)),
+    λ s. m.after (subst (Straight b) (let q : suc e ≡ e + 1 = omega arith in q) s),
+  )
 
   pub maximal_to : (b e : ℕ) → Maximal (length path) Straight b e → IsMaximalRun S path b e
   maximal_to b e m = record {
@@ -50,5 +54,6 @@ module _ (S : List Point → Type 0) (is : IsStraightness S) (path : List Point)
   pub goes_as_far : (g : Stretch) → IsLongest S path g → (b e : ℕ) → g.first ≡ b → Straight b e → e ≤ g.last
   goes_as_far g h b e q s = elim (dec_lt g.last e) [
     | no l ↦ omega arith
-    | yes l ↦ absurd (let rises = straight_ordered g.first g.last h.straight in h.longest (subst (λ v. Straight v (g.last + 1)) (sym q) (run_arcs.part b e b (g.last + 1) s (omega arith) (omega arith) (omega arith))))
+    | yes l ↦ absurd (let rises = straight_ordered g.first g.last h.straight in
+        h.longest (subst (λ v. Straight v (g.last + 1)) (sym q) (run_arcs.part b e b (g.last + 1) s (omega arith) (omega arith) (omega arith))))
   ]

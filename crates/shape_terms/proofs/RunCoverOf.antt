@@ -15,15 +15,18 @@ use Rattle.shape_terms.specs.RunCovers.{IsMaximalRun, IsRunCover, AreRunsWithGap
 use Rattle.shape_terms.proofs.RunArcs.{IsStraightness, Straight, run_arcs, maximal_from, maximal_to}
 
 -- the stretches, and then for all places one that begins where the first does, one round on
-module _ (path : List Point) (stretches : List Stretch) (onward : Stretch) (some : 1 ≤ length stretches) (comes : onward.first ≡ (get_or stretches 0 onward).first + length path) where
+module _ (path : List Point) (stretches : List Stretch) (onward : Stretch) (some : 1 ≤ length stretches)
+    (comes : onward.first ≡ (get_or stretches 0 onward).first + length path) where
   pub next_is : (k : ℕ) → k < length stretches → next_first path stretches k ≡ (get_or stretches (suc k) onward).first
   next_is k h = elim (dec_lt (k + 1) (length stretches)) [
     | yes l ↦ rw (slice_get-get_or stretches (k + 1) onward l) (ap (λ i. (get_or stretches i onward).first) (let q : k + 1 ≡ suc k = omega arith in q))
-    | no l ↦ rw (slice_get_past stretches (k + 1) (omega arith), slice_get-get_or stretches 0 onward some) (sym comes ∙ sym (ap (λ (s : Stretch). s.first) (get_or_past stretches (suc k) onward (omega arith))))
+    | no l ↦ rw (slice_get_past stretches (k + 1) (omega arith), slice_get-get_or stretches 0 onward some)
+        (sym comes ∙ sym (ap (λ (s : Stretch). s.first) (get_or_past stretches (suc k) onward (omega arith))))
   ]
 
   -- a gap goes from the place before the next stretch to the place after its own
-  pub gap_is : (k : ℕ) → k < length stretches → arc path ((get_or stretches (suc k) onward).first - 1) ((get_or stretches k onward).last + 1) ≡ gap_run path stretches k
+  pub gap_is : (k : ℕ) → k < length stretches → arc path ((get_or stretches (suc k) onward).first - 1) ((get_or stretches k onward).last + 1)
+      ≡ gap_run path stretches k
   gap_is k h =
       let b = sym (next_is k h) in
       let e = ap (λ (s : Stretch). s.last) (get_or_default stretches k onward (record { first = 0; last = 0 }) h) in
@@ -63,10 +66,14 @@ module _ (S : List Point → Type 0) (is : IsStraightness S) (path : List Point)
       omega arith
 
   -- what rises from each stretch to the next, and from the last to the first, one round on
-  rises_on : (v : Stretch → ℕ) → ((k : ℕ) → k + 1 < length stretches → v (stretch_at stretches k) < v (stretch_at stretches (k + 1))) → v (stretch_at stretches (length stretches - 1)) < v onward → (k : ℕ) → k < length stretches → v (get_or stretches k onward) < v (get_or stretches (suc k) onward)
+  rises_on : (v : Stretch → ℕ) → ((k : ℕ) → k + 1 < length stretches → v (stretch_at stretches k) < v (stretch_at stretches (k + 1)))
+      → v (stretch_at stretches (length stretches - 1)) < v onward → (k : ℕ) → k < length stretches
+      → v (get_or stretches k onward) < v (get_or stretches (suc k) onward)
   rises_on v r c k h = elim (dec_lt (suc k) (length stretches)) [
-    | yes l ↦ (let q : k + 1 ≡ suc k = omega arith in rw (at_is k h, at_is (suc k) l) (subst (λ j. v (stretch_at stretches k) < v (stretch_at stretches j)) q (r k (omega arith))))
-    | no l ↦ (let q : length stretches - 1 ≡ k = omega arith in rw (at_is k h, get_or_past stretches (suc k) onward (omega arith)) (subst (λ j. v (stretch_at stretches j) < v onward) q c))
+    | yes l ↦ (let q : k + 1 ≡ suc k = omega arith in
+        rw (at_is k h, at_is (suc k) l) (subst (λ j. v (stretch_at stretches k) < v (stretch_at stretches j)) q (r k (omega arith))))
+    | no l ↦ (let q : length stretches - 1 ≡ k = omega arith in rw (at_is k h, get_or_past stretches (suc k) onward (omega arith))
+        (subst (λ j. v (stretch_at stretches j) < v onward) q c))
   ]
 
   rising_b : (k : ℕ) → k < length stretches → begin k < begin (suc k)
@@ -106,7 +113,8 @@ module _ (S : List Point → Type 0) (is : IsStraightness S) (path : List Point)
   pub covers : IsRunCover S path stretches
   covers = record {
     exact = λ s. (listed s, maximal s);
-    rising = λ i j d l h. (let a = ap (λ (s : Stretch). s.first) (get_or_default stretches i d onward (omega arith)) in let b = ap (λ (s : Stretch). s.first) (get_or_default stretches j d onward h) in let r = rises i j l h in omega arith);
+    rising = λ i j d l h. (let a = ap (λ (s : Stretch). s.first) (get_or_default stretches i d onward (omega arith)) in let b =
+        ap (λ (s : Stretch). s.first) (get_or_default stretches j d onward h) in let r = rises i j l h in omega arith);
   }
     where
       listed : (s : Stretch) → Contains stretches s → (s.first < length path) × IsMaximalRun S path s.first s.last

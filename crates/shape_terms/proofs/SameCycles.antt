@@ -41,7 +41,8 @@ pub cycle_same : (X : Picture) (c : Crack) (xs ys : List Crack) → IsCycle X (c
 cycle_same X c xs ys h k = follow_same X c c xs ys h.1 k.1 (pairs-head (λ x y. x ≢ y) c xs h.0) (pairs-head (λ x y. x ≢ y) c ys k.0)
 
 -- ---- a set that is closed under the successor and meets a cycle has its first crack
-pub reaches : (X : Picture) (M : Crack → Type 0) → ((c : Crack) → M c → M (successor X c)) → (f : Crack) (xs : List Crack) → Follow X f xs → (x : Crack) → Contains xs x → M x → M f
+pub reaches : (X : Picture) (M : Crack → Type 0) → ((c : Crack) → M c → M (successor X c)) → (f : Crack) (xs : List Crack) → Follow X f xs → (x : Crack)
+    → Contains xs x → M x → M f
 reaches X M on f [] h x i m = absurd h
 reaches X M on f (c ∷ []) h x i m = elim (in_cases c [] x i) [ inl e ↦ subst M h (on c (subst M (sym e) m)) | inr n ↦ absurd (in_none x n) ]
 reaches X M on f (c ∷ d ∷ xs) h x i m = elim (in_cases c (d ∷ xs) x i) [
@@ -62,7 +63,8 @@ pub cycle_on : (X : Picture) (c : Crack) (xs : List Crack) → IsCycle X (c ∷ 
 cycle_on X c xs h x i = elim (follow_on X c (c ∷ xs) h.1 x i) [ inl k ↦ k | inr e ↦ subst (Contains (c ∷ xs)) (sym e) (head_in c xs) ]
 
 -- two cycles that meet, each of which begins with its least crack, are one
-pub meeting_same : (X : Picture) (a b : List Crack) → IsCycle X a → IsCycle X b → BeginsLeast a → BeginsLeast b → (x : Crack) → Contains a x → Contains b x → a ≡ b
+pub meeting_same : (X : Picture) (a b : List Crack) → IsCycle X a → IsCycle X b → BeginsLeast a → BeginsLeast b → (x : Crack) → Contains a x → Contains b x
+    → a ≡ b
 meeting_same X [] b ha hb la lb x i j = absurd ha
 meeting_same X (c ∷ xs) [] ha hb la lb x i j = absurd hb
 meeting_same X (c ∷ xs) (d ∷ ys) ha hb la lb x i j =
@@ -81,7 +83,8 @@ Rises : List (List Crack) → Type 0
 Rises xs = AllPairs (λ x y. CrackBefore (first_of_cycle x) (first_of_cycle y)) xs
 
 -- each list of the one stands in the other
-same_rising : (xs ys : List (List Crack)) → Rises xs → Rises ys → ((x : List Crack) → Contains xs x → Contains ys x) → ((y : List Crack) → Contains ys y → Contains xs y) → xs ≡ ys
+same_rising : (xs ys : List (List Crack)) → Rises xs → Rises ys → ((x : List Crack) → Contains xs x → Contains ys x)
+    → ((y : List Crack) → Contains ys y → Contains xs y) → xs ≡ ys
 unfolding Rises
 same_rising [] [] h k a b = refl
 same_rising [] (y ∷ ys) h k a b = absurd (in_none y (b y (head_in y ys)))
@@ -90,16 +93,21 @@ same_rising (x ∷ xs) (y ∷ ys) h k a b =
     let R : List Crack → List Crack → Type 0 = λ u v. CrackBefore (first_of_cycle u) (first_of_cycle v) in
     let e : x ≡ y = first x y xs ys (pairs-head R x xs h) (pairs-head R y ys k) (a x (head_in x xs)) (b y (head_in y ys)) in
     let t : xs ≡ ys = same_rising xs ys (pairs-tail R x xs h) (pairs-tail R y ys k)
-    (λ z i. elim (in_cases y ys z (a z (later_in x xs z i))) [ inl q ↦ absurd (crack_not_before_itself _ _ (ap first_of_cycle (e ∙ q)) (All-contains (R x) xs z (pairs-head R x xs h) i)) | inr q ↦ q ])
-    (λ z i. elim (in_cases x xs z (b z (later_in y ys z i))) [ inl q ↦ absurd (crack_not_before_itself _ _ (ap first_of_cycle (sym e ∙ q)) (All-contains (R y) ys z (pairs-head R y ys k) i)) | inr q ↦ q ]) in
+    (λ z i. elim (in_cases y ys z (a z (later_in x xs z i)))
+    [ inl q ↦ absurd (crack_not_before_itself _ _ (ap first_of_cycle (e ∙ q)) (All-contains (R x) xs z (pairs-head R x xs h) i)) | inr q ↦ q ])
+    (λ z i. elim (in_cases x xs z (b z (later_in y ys z i)))
+    [ inl q ↦ absurd (crack_not_before_itself _ _ (ap first_of_cycle (sym e ∙ q)) (All-contains (R y) ys z (pairs-head R y ys k) i)) | inr q ↦ q ]) in
     cc
   where
-    first : (x y : List Crack) (xs ys : List (List Crack)) → All (λ v. CrackBefore (first_of_cycle x) (first_of_cycle v)) xs → All (λ v. CrackBefore (first_of_cycle y) (first_of_cycle v)) ys → Contains (y ∷ ys) x → Contains (x ∷ xs) y → x ≡ y
+    first : (x y : List Crack) (xs ys : List (List Crack)) → All (λ v. CrackBefore (first_of_cycle x) (first_of_cycle v)) xs
+        → All (λ v. CrackBefore (first_of_cycle y) (first_of_cycle v)) ys → Contains (y ∷ ys) x → Contains (x ∷ xs) y → x ≡ y
     first x y xs ys h k i j = elim (in_cases y ys x i) [
       | inl e ↦ sym e
       | inr l ↦ elim (in_cases x xs y j) [
         | inl e ↦ e
-        | inr m ↦ absurd (crack_before_once (first_of_cycle x) (first_of_cycle y) (All-contains (λ v. CrackBefore (first_of_cycle x) (first_of_cycle v)) xs y h m) (All-contains (λ v. CrackBefore (first_of_cycle y) (first_of_cycle v)) ys x k l))
+        | inr m ↦ absurd (crack_before_once (first_of_cycle x) (first_of_cycle y)
+            (All-contains (λ v. CrackBefore (first_of_cycle x) (first_of_cycle v)) xs y h m)
+            (All-contains (λ v. CrackBefore (first_of_cycle y) (first_of_cycle v)) ys x k l))
       ]
     ]
 
@@ -124,7 +132,8 @@ crosses X a b h k [] i = absurd (All-contains (IsCycle X) a [] h.cycle i)
 crosses X a b h k (c ∷ xs) i =
     let is : IsCrack X c = (h.each c).1 (of_list a (c ∷ xs) c i (head_in c xs)) in
     let r = list_of b c ((k.each c).0 is) in
-    let e : r.0 ≡ c ∷ xs = meeting_same X r.0 (c ∷ xs) (All-contains (IsCycle X) b r.0 k.cycle r.1) (All-contains (IsCycle X) a (c ∷ xs) h.cycle i) (All-contains BeginsLeast b r.0 k.least r.1) (All-contains BeginsLeast a (c ∷ xs) h.least i) c r.2 (head_in c xs) in
+    let e : r.0 ≡ c ∷ xs = meeting_same X r.0 (c ∷ xs) (All-contains (IsCycle X) b r.0 k.cycle r.1) (All-contains (IsCycle X) a (c ∷ xs) h.cycle i)
+    (All-contains BeginsLeast b r.0 k.least r.1) (All-contains BeginsLeast a (c ∷ xs) h.least i) c r.2 (head_in c xs) in
     subst (Contains b) e r.1
 
 -- the cycles of a picture are determined

@@ -57,7 +57,8 @@ beside_side (x ∷ p) (suc k) n h a =
     (ap suc r.0, omega (arith, ints, r.1))
 
 all_from : (p : Point) (a n : ℕ) → a + n ≤ length p
-    → AllByRecursion (Side p) (map (moved p) (flat_map (λ k. moved (origin (length p)) (along k (negsuc 0)) ∷ moved (origin (length p)) (along k (pos 1)) ∷ []) (range_with_len a n)))
+    → AllByRecursion (Side p)
+    (map (moved p) (flat_map (λ k. moved (origin (length p)) (along k (negsuc 0)) ∷ moved (origin (length p)) (along k (pos 1)) ∷ []) (range_with_len a n)))
 all_from p a zero h = tt
 all_from p a (suc n) h = (beside_side p a (negsuc 0) (omega arith) refl, (beside_side p a (pos 1) (omega arith) refl, all_from p (a + 1) n (omega arith)))
 
@@ -88,7 +89,8 @@ axis_of (x ∷ p) (y ∷ q) h = by_split (λ s. axis_of p q s) (split_one (nat_a
         let g : x +ℤ (pos 0 +ℤ pos 0) ≡ y = omega (arith, ints) in
         (suc k, n, omega arith, a, λ i. g i ∷ f i)
 
-    by_split : (Side p q → (k : ℕ) × (n : ℤ) × (k < length p) × (nat_abs n ≡ 1) × (beside p k n ≡ q)) → ((nat_abs (x -ℤ y) ≡ 1) × (city_distance p q ≡ 0)) ⊎ ((nat_abs (x -ℤ y) ≡ 0) × (city_distance p q ≡ 1))
+    by_split : (Side p q → (k : ℕ) × (n : ℤ) × (k < length p) × (nat_abs n ≡ 1) × (beside p k n ≡ q)) → ((nat_abs (x -ℤ y) ≡ 1) × (city_distance p q ≡ 0))
+        ⊎ ((nat_abs (x -ℤ y) ≡ 0) × (city_distance p q ≡ 1))
         → (k : ℕ) × (n : ℤ) × (k < suc (length p)) × (nat_abs n ≡ 1) × (beside (x ∷ p) k n ≡ y ∷ q)
     by_split r (inl e) =
         let a : nat_abs (y -ℤ x) ≡ 1 = omega (arith, ints, e.0) in
@@ -113,7 +115,8 @@ side_listed p q h = of_axis (axis_of p q h)
     of_axis : (k : ℕ) × (n : ℤ) × (k < length p) × (nat_abs n ≡ 1) × (beside p k n ≡ q) → Contains (side_points p) q
     of_axis (k, n, b, a, e) =
         subst (λ w. Contains (side_points p) w) e (Contains-map (moved p) (side_steps (length p)) (moved (origin (length p)) (along k n))
-        (Contains-flat_map (λ j. moved (origin (length p)) (along j (negsuc 0)) ∷ moved (origin (length p)) (along j (pos 1)) ∷ []) (range_with_len 0 (length p)) k (moved (origin (length p)) (along k n))
+        (Contains-flat_map (λ j. moved (origin (length p)) (along j (negsuc 0)) ∷ moved (origin (length p)) (along j (pos 1)) ∷ [])
+        (range_with_len 0 (length p)) k (moved (origin (length p)) (along k n))
         (Contains-range (length p) k b) (among k n (unit_sign n a))))
 
 -- ---- each of them stands there once
@@ -150,7 +153,8 @@ other_step d j k n m l r some other e = elim (ℕ_discrete j k) [
   | yes i ↦ (
       let a = step_here d j n l in
       let b = step_here d k m r in
-      let c : coordinate (moved (origin d) (along j n)) j ≡ coordinate (moved (origin d) (along k m)) k = ap (λ (v : Point). coordinate v j) e ∙ ap (coordinate (moved (origin d) (along k m))) i in
+      let c : coordinate (moved (origin d) (along j n)) j ≡ coordinate (moved (origin d) (along k m)) k = ap (λ (v : Point). coordinate v j) e
+      ∙ ap (coordinate (moved (origin d) (along k m))) i in
       other i (sym a ∙ (c ∙ b)))
   | no i ↦ (
       let a = step_here d j n l in
@@ -162,17 +166,24 @@ other_step d j k n m l r some other e = elim (ℕ_discrete j k) [
 axis_steps : ℕ → ℕ → List Point
 axis_steps d k = moved (origin d) (along k (negsuc 0)) ∷ moved (origin d) (along k (pos 1)) ∷ []
 
-later_steps : (d j : ℕ) (n : ℤ) → j < d → (n ≡ pos 0 → ⊥) → (a m : ℕ) → j < a → a + m ≤ d → AllByRecursion (λ y. moved (origin d) (along j n) ≢ y) (flat_map (axis_steps d) (range_with_len a m))
+later_steps : (d j : ℕ) (n : ℤ) → j < d → (n ≡ pos 0 → ⊥) → (a m : ℕ) → j < a → a + m ≤ d
+    → AllByRecursion (λ y. moved (origin d) (along j n) ≢ y) (flat_map (axis_steps d) (range_with_len a m))
 unfolding axis_steps
 later_steps d j n l some a zero h b = tt
-later_steps d j n l some a (suc m) h b =
-    (other_step d j a n (negsuc 0) l (omega arith) some (λ e. absurd (omega arith)), (other_step d j a n (pos 1) l (omega arith) some (λ e. absurd (omega arith)), later_steps d j n l some (a + 1) m (omega arith) (omega arith)))
+later_steps d j n l some a (suc m) h b = (
+  other_step d j a n (negsuc 0) l (omega arith) some (λ e. absurd (omega arith)),
+  (other_step d j a n (pos 1) l (omega arith) some (λ e. absurd (omega arith)), later_steps d j n l some (a + 1) m (omega arith) (omega arith)),
+)
 
 apart_steps : (d a m : ℕ) → a + m ≤ d → Apart (flat_map (axis_steps d) (range_with_len a m))
 unfolding axis_steps Apart
 apart_steps d a zero h = tt
 apart_steps d a (suc m) h = (
-  (other_step d a a (negsuc 0) (pos 1) (omega arith) (omega arith) below (λ i e. sides e), later_steps d a (negsuc 0) (omega arith) below (a + 1) m (omega arith) (omega arith)),
+  (
+    other_step d a a (negsuc 0) (pos 1) (omega arith) (omega arith) below (λ i e. sides e),
+    later_steps d a (negsuc 0) (omega arith) below (a + 1) m
+        (omega arith) (omega arith),
+  ),
   (later_steps d a (pos 1) (omega arith) above (a + 1) m (omega arith) (omega arith), apart_steps d (a + 1) m (omega arith)),
 )
   where
@@ -198,7 +209,9 @@ step_lengths d a (suc m) h = (length_step d a (negsuc 0) (omega arith), (length_
 -- each side neighbour of a point is listed once
 pub side_points_distinct : (p : Point) → AllPairs (λ x y. x ≢ y) (side_points p)
 unfolding axis_steps
-side_points_distinct p = apart_pairs (side_points p) (apart_points p (side_steps (length p)) (step_lengths (length p) 0 (length p) (omega arith)) (apart_steps (length p) 0 (length p) (omega arith)))
+side_points_distinct p =
+    apart_pairs (side_points p)
+    (apart_points p (side_steps (length p)) (step_lengths (length p) 0 (length p) (omega arith)) (apart_steps (length p) 0 (length p) (omega arith)))
 
 -- ---- a side neighbour is near
 
@@ -209,4 +222,7 @@ close_by (x ∷ p) [] l h = absurd (omega arith)
 close_by (x ∷ p) (y ∷ q) l h = let s = city-cons x y p q in (omega arith, close_by p q (omega arith) (omega arith))
 
 pub side_is_near : (p q : Point) → Side p q → Near p q
-side_is_near p q h = ((λ e. let a : city_distance p q ≡ 0 = ap (city_distance p) (sym e) ∙ none_apart p in let b = h.1 in omega arith), close_by p q h.0 (let b = h.1 in omega arith))
+side_is_near p q h = (
+  (λ e. let a : city_distance p q ≡ 0 = ap (city_distance p) (sym e) ∙ none_apart p in let b = h.1 in omega arith),
+  close_by p q h.0 (let b = h.1 in omega arith),
+)

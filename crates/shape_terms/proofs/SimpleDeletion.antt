@@ -74,7 +74,14 @@ module _ (Y : Picture) (p : Point) (o : Object Y p) (simple : IsSimple Y p) wher
       of q h = (h.0.1, h.1)
 
       keeps : (q : Point) → FramedBackground Y q → FramedBackground (without Y p) q
-      keeps q h = (h.0, record { point = h.1.point; value = value_elsewhere Y p q false in_the_box (λ e. not_both p o (sym (ap (at Y) e) ∙ h.1.value)) ∙ h.1.value })
+      keeps q h = (
+        h.0,
+        record {
+          point = h.1.point;
+          value = value_elsewhere Y p q false in_the_box (λ e. not_both p o (sym (ap (at Y) e) ∙ h.1.value))
+              ∙ h.1.value;
+        },
+      )
 
       others : (q : Point) → FramedBackground (without Y p) q → q ≢ p → FramedBackground Y q
       others q h n = (h.0, record { point = h.1.point; value = sym (value_elsewhere Y p q false in_the_box n) ∙ h.1.value })

@@ -87,7 +87,8 @@ held X p = at X (point p)
 abbrev pub crack_of : Place × ℕ → Crack
 crack_of n = crack_at n.0 n.1
 
-chosen : (b a : Bool) (p A B : Place) (d : ℕ) → cond b (crack_at B ((d + 3) % 4)) (cond a (crack_at A d) (crack_at p ((d + 1) % 4))) ≡ crack_of (ahead_by moves (λ (q : Place). true) b a p A B d)
+chosen : (b a : Bool) (p A B : Place) (d : ℕ) → cond b (crack_at B ((d + 3) % 4)) (cond a (crack_at A d) (crack_at p ((d + 1) % 4)))
+    ≡ crack_of (ahead_by moves (λ (q : Place). true) b a p A B d)
 chosen true a p A B d = refl
 chosen false true p A B d = refl
 chosen false false p A B d = refl

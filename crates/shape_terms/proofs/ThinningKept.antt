@@ -34,5 +34,6 @@ module _ (rule : Rule) (X : Picture) (o b : ℕ) where
 pub thinning_keeps : (rule : Rule) (X : Picture) (events : List Event) (s : Stage) (n o b : ℕ) → ThinsTo rule X events s → Counts X n o b
     → Counts s.left (length (object_points s.left)) o b
 thinning_keeps rule X events s n o b t c =
-    let k = run_keeps rule X o b events (record { left = X; marked = []; state = rule.opening }) s t (record { object = c.object; background = c.background }) in
+    let k = run_keeps rule X o b events (record { left = X; marked = []; state = rule.opening }) s t (record { object = c.object; background = c.background })
+    in
     record { points = refl; object = k.object; background = k.background }

@@ -7,7 +7,8 @@ use Rattle.shape_terms.specs.Points.{Point}
 use Rattle.shape_terms.specs.Steps.{Before}
 use Rattle.shape_terms.specs.Pictures.{Picture}
 use Rattle.shape_terms.proofs.CrackOrder.{before_once}
-use Rattle.shape_terms.specs.Thinning.{near_count, Rule, Event, Stage, Facts, IsNext, IsCandidate, HasDistance, ThinStep, IsThinned, IsThinning, opening_stage, event_at, stage_after}
+use Rattle.shape_terms.specs.Thinning.{near_count, Rule, Event, Stage, Facts, IsNext, IsCandidate, HasDistance, ThinStep, IsThinned, IsThinning, opening_stage}
+use Rattle.shape_terms.specs.Thinning.{event_at, stage_after}
 
 -- the distance to the background is one
 pub one_distance : (X : Picture) (p : Point) (s t : ℕ) → HasDistance X p s → HasDistance X p t → s ≡ t
@@ -53,14 +54,16 @@ one_step rule X s u v d e (p, f, a, c, h) (q, g, b, k, l) =
     (r, h ∙ (λ i. stage_after rule s (r i) (n.1 i)) ∙ sym l)
 
 -- the stage that events lead to is one
-pub one_stage : (rule : Rule) (X : Picture) (events : List Event) (s u v : Stage) → FoldsTo (ThinStep rule X) s events u → FoldsTo (ThinStep rule X) s events v → u ≡ v
+pub one_stage : (rule : Rule) (X : Picture) (events : List Event) (s u v : Stage) → FoldsTo (ThinStep rule X) s events u → FoldsTo (ThinStep rule X) s events v
+    → u ≡ v
 one_stage rule X [] s u v a b = sym a ∙ b
 one_stage rule X (e ∷ events) s u v (j, a, c) (k, b, d) =
     let n = one_step rule X s j k e e a b in
     one_stage rule X events j u v c (subst (λ w. FoldsTo (ThinStep rule X) w events v) (sym n.1) d)
 
 -- a picture has one thinning
-thinnings : (rule : Rule) (X : Picture) (ds es : List Event) (s u v : Stage) → FoldsTo (ThinStep rule X) s ds u → IsThinned u → FoldsTo (ThinStep rule X) s es v → IsThinned v → (ds ≡ es) × (u ≡ v)
+thinnings : (rule : Rule) (X : Picture) (ds es : List Event) (s u v : Stage) → FoldsTo (ThinStep rule X) s ds u → IsThinned u → FoldsTo (ThinStep rule X) s es v
+    → IsThinned v → (ds ≡ es) × (u ≡ v)
 thinnings rule X [] [] s u v a m b n = (refl, sym a ∙ b)
 thinnings rule X [] (e ∷ es) s u v a m (k, (p, f, x, c, h), d) n = absurd (m p (subst (λ w. IsCandidate w p) a x.candidate))
 thinnings rule X (d ∷ ds) [] s u v (j, (p, f, x, c, h), r) m b n = absurd (n p (subst (λ w. IsCandidate w p) b x.candidate))

@@ -60,7 +60,8 @@ pub first-walk : (X : Picture) (start : Crack) (steps : ℕ) → 1 ≤ steps →
 first-walk X start zero l = absurd (omega arith)
 first-walk X start (suc n) l = refl
 
-pub traced_more : (X : Picture) → length X.sides ≡ 2 → (start c : Crack) (steps : ℕ) (points : List Point) → IsCrack X start → Tracing X start c steps points → (c ≡ start → ⊥)
+pub traced_more : (X : Picture) → length X.sides ≡ 2 → (start c : Crack) (steps : ℕ) (points : List Point) → IsCrack X start → Tracing X start c steps points
+    → (c ≡ start → ⊥)
     → Tracing X start (successor X c) (steps + 1) (points ++ cond (stays X c) [] (c.pixel ∷ []))
 traced_more X axes start c steps points k t away = record {
   reached = reached_more X axes start c steps k t.reached away;
@@ -72,16 +73,20 @@ pub not_zero : (n : ℕ) → (suc n == 0) ≡ false
 not_zero n = grind (arith, nat_tests)
 
 -- the points of the contour, where those left are some, and where there are none
-pub traced_some : (X : Picture) (start : Crack) (steps : ℕ) (points : List Point) → points ≡ left_pixels X (walk X start steps) → 1 ≤ length points → points ≡ contour_points X (walk X start steps)
+pub traced_some : (X : Picture) (start : Crack) (steps : ℕ) (points : List Point) → points ≡ left_pixels X (walk X start steps) → 1 ≤ length points
+    → points ≡ contour_points X (walk X start steps)
 traced_some X start steps points e l = e ∙ go (left_pixels X (walk X start steps)) (ap length e)
   where
     go : (l : List Point) → length points ≡ length l → l ≡ (if (length l == 0) then ((first_of_cycle (walk X start steps)).pixel ∷ []) else l)
     go [] e = absurd (omega arith)
     go (p ∷ l) e = rw (not_zero (length l))
 
-pub traced_none : (X : Picture) (start : Crack) (steps : ℕ) (points : List Point) → points ≡ left_pixels X (walk X start steps) → length points ≡ 0 → 1 ≤ steps → start.pixel ∷ [] ≡ contour_points X (walk X start steps)
-traced_none X start steps points e l s = ap (λ (c : Crack). c.pixel ∷ []) (sym (first-walk X start steps s)) ∙ go (left_pixels X (walk X start steps)) (sym (ap length e) ∙ l)
+pub traced_none : (X : Picture) (start : Crack) (steps : ℕ) (points : List Point) → points ≡ left_pixels X (walk X start steps) → length points ≡ 0 → 1 ≤ steps
+    → start.pixel ∷ [] ≡ contour_points X (walk X start steps)
+traced_none X start steps points e l s = ap (λ (c : Crack). c.pixel ∷ []) (sym (first-walk X start steps s))
+    ∙ go (left_pixels X (walk X start steps)) (sym (ap length e) ∙ l)
   where
-    go : (l : List Point) → length l ≡ 0 → (first_of_cycle (walk X start steps)).pixel ∷ [] ≡ (if (length l == 0) then ((first_of_cycle (walk X start steps)).pixel ∷ []) else l)
+    go : (l : List Point) → length l ≡ 0
+        → (first_of_cycle (walk X start steps)).pixel ∷ [] ≡ (if (length l == 0) then ((first_of_cycle (walk X start steps)).pixel ∷ []) else l)
     go [] e = refl
     go (p ∷ l) e = absurd (omega arith)

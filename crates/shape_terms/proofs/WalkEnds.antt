@@ -20,7 +20,8 @@ one_of : {A : Type 0} (xs : List A) → 1 ≤ length xs → A
 one_of [] l = absurd (omega arith)
 one_of (x ∷ xs) l = x
 
-module _ {F : Type 0} (k : WalkKind F) (laws : IsWalkKind k) (path : List Point) (found : List F) (now : Stretch) (round : ℕ) (w : IsWalk k path found now round) (over : round ≤ now.first) (some_place : 1 ≤ length path) where
+module _ {F : Type 0} (k : WalkKind F) (laws : IsWalkKind k) (path : List Point) (found : List F) (now : Stretch) (round : ℕ)
+    (w : IsWalk k path found now round) (over : round ≤ now.first) (some_place : 1 ≤ length path) where
   abbrev stretches : List Stretch
   stretches = map k.stretch found
 
@@ -49,7 +50,8 @@ module _ {F : Type 0} (k : WalkKind F) (laws : IsWalkKind k) (path : List Point)
   is_found i l = walk_found k found now i (one_of found some_found) l
 
   follows : (i : ℕ) → i < length found → IsFollowedBy k path (thing i) (stretch_of_walk k found now (suc i))
-  follows i l = subst (λ j. IsFollowedBy k path (thing i) (stretch_of_walk k found now j)) (let q : i + 1 ≡ suc i = omega arith in q) (w.followed i (one_of found some_found) l)
+  follows i l = subst (λ j. IsFollowedBy k path (thing i) (stretch_of_walk k found now j)) (let q : i + 1 ≡ suc i = omega arith in q)
+      (w.followed i (one_of found some_found) l)
 
   straight : (i : ℕ) → i ≤ length found → On (begin i) (finish i)
   straight i l = (w.longest i l).straight
@@ -58,7 +60,8 @@ module _ {F : Type 0} (k : WalkKind F) (laws : IsWalkKind k) (path : List Point)
   wide i l = let n = (follows i l).near in let e = ap (λ (s : Stretch). s.last) (is_found i l) in omega arith
 
   bent : (i : ℕ) → i < length found → On (begin (suc i) - 1) (finish i + 1) → ⊥
-  bent i l s = laws.bent (thing i) (arc path (begin (suc i) - 1) ((k.stretch (thing i)).last + 1)) (follows i l).gap (subst (λ (t : Stretch). On (begin (suc i) - 1) (t.last + 1)) (is_found i l) s)
+  bent i l s = laws.bent (thing i) (arc path (begin (suc i) - 1) ((k.stretch (thing i)).last + 1)) (follows i l).gap
+      (subst (λ (t : Stretch). On (begin (suc i) - 1) (t.last + 1)) (is_found i l) s)
 
   rising_b : (i : ℕ) → i < length found → begin i < begin (suc i)
   rising_b i l = let f = (follows i l).first in let q = ap (λ (s : Stretch). s.first) (is_found i l) in omega arith
@@ -70,7 +73,8 @@ module _ {F : Type 0} (k : WalkKind F) (laws : IsWalkKind k) (path : List Point)
   walk = record {
     some = some_found;
     low = w.start.low;
-    first = λ s. w.start.before (subst (λ b. On b (finish 0 + length path)) (let q : pred (begin 0 + length path) ≡ begin 0 + length path - 1 = omega arith in q) s);
+    first = λ s. w.start.before
+        (subst (λ b. On b (finish 0 + length path)) (let q : pred (begin 0 + length path) ≡ begin 0 + length path - 1 = omega arith in q) s);
     least = λ b e l m. w.start.least b e l (maximal_to k.Straight laws.straightness path b e m);
     before = λ i l. (let q = ap (λ (s : Stretch). s.first) (is_found i l) in let b = w.before i (one_of found some_found) l in let c = w.comes in omega arith);
     reached = (let q = ap (λ (s : Stretch). s.first) (walk_now k found now (length found) (omega arith)) in let c = w.comes in omega arith);
@@ -102,7 +106,8 @@ module _ {F : Type 0} (k : WalkKind F) (laws : IsWalkKind k) (path : List Point)
   gap_bent i d l =
       let e : (k.stretch (thing i)).last ≡ finish i = sym (ap (λ (s : Stretch). s.last) (is_found i l)) in
       let t : thing i ≡ get_or found i d = get_or_default found i (one_of found some_found) d l in
-      subst (λ g. k.Bends g (gap_run path stretches i)) t (subst (k.Bends (thing i)) ((λ j. arc path (begin (suc i) - 1) (e j + 1)) ∙ run_is i l) (follows i l).gap)
+      subst (λ g. k.Bends g (gap_run path stretches i)) t
+      (subst (k.Bends (thing i)) ((λ j. arc path (begin (suc i) - 1) (e j + 1)) ∙ run_is i l) (follows i l).gap)
 
   at_is : (i : ℕ) → i < length stretches → stretch_at stretches i ≡ stretch_of_walk k found now i
   at_is i l = get_or_default stretches i (record { first = 0; last = 0 }) now l

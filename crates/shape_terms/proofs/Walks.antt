@@ -33,7 +33,8 @@ iterate-shift X (suc n) c = ap (successor X) (iterate-shift X n c)
 
 pub walk-push : (X : Picture) (n : ℕ) (c : Crack) → walk X c (suc n) ≡ walk X c n ++ iterate (successor X) n c ∷ []
 walk-push X zero c = refl
-walk-push X (suc n) c = ap (λ (l : List Crack). c ∷ l) (walk-push X n (successor X c) ∙ ap (λ (d : Crack). walk X (successor X c) n ++ d ∷ []) (iterate-shift X n c))
+walk-push X (suc n) c =
+    ap (λ (l : List Crack). c ∷ l) (walk-push X n (successor X c) ∙ ap (λ (d : Crack). walk X (successor X c) n ++ d ∷ []) (iterate-shift X n c))
 
 pub length-walk : (X : Picture) (n : ℕ) (c : Crack) → length (walk X c n) ≡ n
 length-walk X zero c = refl
@@ -59,8 +60,10 @@ walk_cycle X axes c k (suc n) y = (
 )
 
 -- ---- the pixels that are left
-pub left_pixels-push : (X : Picture) (cracks : List Crack) (c : Crack) → left_pixels X (cracks ++ c ∷ []) ≡ left_pixels X cracks ++ cond (stays X c) [] (c.pixel ∷ [])
+pub left_pixels-push : (X : Picture) (cracks : List Crack) (c : Crack)
+    → left_pixels X (cracks ++ c ∷ []) ≡ left_pixels X cracks ++ cond (stays X c) [] (c.pixel ∷ [])
 left_pixels-push X cracks c =
     ap (map (λ (c : Crack). c.pixel)) (filter-append (λ (c : Crack). not (stays X c)) cracks (c ∷ []))
     ∙ (map-append (λ (c : Crack). c.pixel) (filter (λ (c : Crack). not (stays X c)) cracks) (filter (λ (c : Crack). not (stays X c)) (c ∷ []))
-    ∙ ap (λ (l : List Point). left_pixels X cracks ++ l) (elim (stays X c) as (λ b. map (λ (c : Crack). c.pixel) (cond (not b) (c ∷ []) []) ≡ cond b [] (c.pixel ∷ [])) [ true ↦ refl | false ↦ refl ]))
+    ∙ ap (λ (l : List Point). left_pixels X cracks ++ l)
+    (elim (stays X c) as (λ b. map (λ (c : Crack). c.pixel) (cond (not b) (c ∷ []) []) ≡ cond b [] (c.pixel ∷ [])) [ true ↦ refl | false ↦ refl ]))

@@ -1,6 +1,7 @@
 -- Steps between points, and the two adjacencies: that of object points and that of background points.
 -- Every definition serves each number of axes; sets of points and their components stand in `Parts`.
-use Rattle.std.specs.Prelude.{◌≡◌, ◌≢◌, ℕ, zero, suc, ◌<◌, ◌≤◌, ◌==◌, not, List, [], ◌∷◌, map, length, slice_index_or, filter, sum, ℤ, pos, negsuc, ◌+ℤ◌, ◌-ℤ◌, nat_abs}
+use Rattle.std.specs.Prelude.{◌≡◌, ◌≢◌, ℕ, zero, suc, ◌<◌, ◌≤◌, ◌==◌, not, List, [], ◌∷◌, map, length, slice_index_or, filter, sum, ℤ, pos, negsuc, ◌+ℤ◌, ◌-ℤ◌}
+use Rattle.std.specs.Prelude.{nat_abs}
 use Rattle.std.specs.List.{AllZip, range_with_len, flat_map}
 use Rattle.shape_terms.specs.Points.{Point, axis_distances}
 

@@ -1,6 +1,7 @@
 -- Cracks of flat pictures, the cycles in which they follow each other, and the points of these.
 -- A crack is a pixel and a side here; none of the definitions may name a type of the program.
-use Rattle.std.specs.Prelude.{◌≡◌, ◌≢◌, ◌⊎◌, ℕ, zero, suc, ◌+◌, ◌<◌, ◌%◌, ◌==◌, Bool, false, ◌&&◌, not, if◌then◌else◌, List, [], ◌∷◌, map, length, slice_index_or, pos, negsuc, IsTrue, All, AllPairs, Contains, ◌↔◌, flat_map, filter}
+use Rattle.std.specs.Prelude.{◌≡◌, ◌≢◌, ◌⊎◌, ℕ, zero, suc, ◌+◌, ◌<◌, ◌%◌, ◌==◌, Bool, false, ◌&&◌, not, if◌then◌else◌, List, [], ◌∷◌, map, length}
+use Rattle.std.specs.Prelude.{slice_index_or, pos, negsuc, IsTrue, All, AllPairs, Contains, ◌↔◌, flat_map, filter}
 use Rattle.shape_terms.specs.Points.{Point}
 use Rattle.shape_terms.specs.Adjacency.{moved}
 use Rattle.shape_terms.specs.Steps.{Before}

@@ -1,6 +1,7 @@
 -- The tangential cover of a contour: its maximal straight runs, and the evidence that none is missing.
 -- Places of a contour go round and round; how a cover is found belongs elsewhere.
-use Rattle.std.specs.Prelude.{◌≡◌, ◌↔◌, ℕ, ◌+◌, ◌-◌, ◌<◌, ◌≤◌, ◌%◌, List, [], ◌∷◌, ◌++◌, map, length, slice_index_or, slice_get, AllPairs, Contains, Option, Some, None, IfSome}
+use Rattle.std.specs.Prelude.{◌≡◌, ◌↔◌, ℕ, ◌+◌, ◌-◌, ◌<◌, ◌≤◌, ◌%◌, List, [], ◌∷◌, ◌++◌, map, length, slice_index_or, slice_get, AllPairs, Contains, Option}
+use Rattle.std.specs.Prelude.{Some, None, IfSome}
 use Rattle.std.specs.List.{range_with_len}
 use Rattle.shape_terms.specs.Points.{Point}
 use Rattle.shape_terms.specs.Refutations.{Refutation, Refutes, point_at}
@@ -57,6 +58,7 @@ pub record IsSegment (points : List Point) (m : ℕ) (before : List Stretch) (b 
   pub rises : b ≤ e
   pub short : e < b + length points
   pub after : IfSome (slice_get before (length before - 1)) (λ s. (s.first < b) × (s.last < e))
-  pub closes : length before + 1 ≡ m → e < (slice_index_or (before ++ record { first = b; last = e } ∷ []) 0 (record { first = b; last = e })).last + length points
+  pub closes : length before + 1 ≡ m → e < (slice_index_or (before ++ record { first = b; last = e } ∷ []) 0 (record { first = b; last = e })).last
+      + length points
   pub naive : IsNaiveFor t (arc points b e) line
   pub sense : KeepsSense t (arc points b e)

@@ -40,6 +40,10 @@ most_flat_trial = 2048
 abbrev pub most_solid_trial : ℕ
 most_solid_trial = 192
 
+-- the greatest length of a voxel's side, in the unit of its spacing
+abbrev pub most_spacing : ℕ
+most_spacing = 1000
+
 -- ---- coordinates and distances
 
 -- the greatest coordinate of a framed point, with room to spare

@@ -1,6 +1,7 @@
 -- Points of the whole space as lists of whole numbers, one for each axis, and boxes of such points.
 -- Every definition serves each number of axes; none may name a type of the program.
-use Rattle.std.specs.Prelude.{◌≡◌, ℕ, ◌+◌, ◌*◌, ◌/◌, ◌%◌, ◌<◌, Bool, true, false, ◌&&◌, nat_lt, List, [], ◌∷◌, map, length, slice_index_or, ℤ, pos, ◌-ℤ◌, nat_abs, ◌≤ℤ◌, sum_by}
+use Rattle.std.specs.Prelude.{◌≡◌, ℕ, ◌+◌, ◌*◌, ◌/◌, ◌%◌, ◌<◌, Bool, true, false, ◌&&◌, nat_lt, List, [], ◌∷◌, map, length, slice_index_or, ℤ, pos, ◌-ℤ◌}
+use Rattle.std.specs.Prelude.{nat_abs, ◌≤ℤ◌, sum_by}
 use Rattle.std.specs.List.{range_with_len, flat_map}
 use Rattle.std.specs.Ordering.{int_cmp, ordering_then}
 use Rattle.std.specs.declared.cmp.Ordering.{Ordering}

@@ -5,7 +5,8 @@ use Rattle.shape_terms.specs.Points.{Point}
 use Rattle.shape_terms.specs.Covers.{Stretch, arc}
 use Rattle.shape_terms.specs.RunCovers.{IsMaximalRun}
 
--- a kind of walk: which runs are straight; and of each thing that it finds, its stretch, and what it claims of the run of the stretch and of the run of the gap after it
+-- a kind of walk: which runs are straight; and of each thing that it finds, its stretch, and what it claims of the run of the stretch and of the run of the gap
+-- after it
 pub record WalkKind (F : Type 0) : Type 1 where
   pub Straight : List Point → Type 0
   pub stretch : F → Stretch
@@ -23,7 +24,8 @@ pub record IsLongest (S : List Point → Type 0) (path : List Point) (s : Stretc
   pub straight : S (arc path s.first s.last)
   pub longest : S (arc path s.first (s.last + 1)) → ⊥
 
--- the next stretch begins and ends later, at most one place after the one that was found, and the run from the place before it to the place after that one is bent
+-- the next stretch begins and ends later, at most one place after the one that was found, and the run from the place before it to the place after that one is
+-- bent
 pub record IsFollowedBy {F : Type 0} (k : WalkKind F) (path : List Point) (f : F) (next : Stretch) : Type 0 where
   pub first : (k.stretch f).first < next.first
   pub last : (k.stretch f).last < next.last

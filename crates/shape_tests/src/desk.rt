@@ -4,7 +4,7 @@ ghost use Rattle.std.specs.Prelude.{◌≤◌};
 
 use shape_desk::{
     Desk, Failed, LineFault, LineReader, MemoryDesk, Place, SteadyDesk, put_all, put_line,
-    put_number, put_word,
+    put_number, put_number_behind_blank, put_word,
 };
 use std::alloc::Global;
 use std::test::Fail;
@@ -73,6 +73,17 @@ fn puts_words_and_numbers(rt: HostRuntime) {
     at = put_number(i64::MIN, &mut buf, at);
     at = put_number(0, &mut buf, at);
     assert!(rt; &buf[..at] == b".near-92233720368547758080".as_slice());
+}
+
+#[test]
+fn puts_numbers_behind_blanks(rt: HostRuntime) {
+    let mut buf = [b'.'; 110];
+    let mut at = put_number_behind_blank(0, &mut buf, 1);
+    at = put_number_behind_blank(999, &mut buf, at);
+    at = put_number_behind_blank(9999, &mut buf, at);
+    at = put_number_behind_blank(-1, &mut buf, at);
+    at = put_number_behind_blank(i64::MIN, &mut buf, at);
+    assert!(rt; &buf[..at] == b". 0 999 9999 -1 -9223372036854775808".as_slice());
 }
 
 // A line of so many bytes, and what is read.

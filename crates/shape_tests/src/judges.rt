@@ -1,8 +1,7 @@
 //! What no report asks of the judges of contours, faces and thinnings: lines that never come to them, and a count before it is wanted.
 use crate::pictures::stepped;
-use judge_cover::CoverJudge;
 use judge_field::Scans;
-use judge_plane::PlaneJudge;
+use judge_outline::{CoverJudge, PlaneJudge};
 use shape_check::{ThinJudge, distances_of};
 use shape_grid::Grid;
 use shape_refute::Naive;

@@ -30,11 +30,11 @@ fn tell_many(page: &mut Page, desk: &mut MemoryDesk) {
 }
 
 #[test]
-fn a_page_is_written_when_it_is_full(rt: HostRuntime) -> Result<(), Fail> {
+fn a_page_is_written_when_a_longest_line_has_no_room(rt: HostRuntime) -> Result<(), Fail> {
     let mut desk = desk(rt.alloc(), 100000)?;
     let mut page = Page::new(rt.alloc())?;
     tell_many(&mut page, &mut desk);
-    assert!(rt; desk.output().len() == 65530);
+    assert!(rt; desk.output().len() == 64520);
     assert!(rt; page.finish(&mut desk).is_ok());
     assert!(rt; desk.output().len() == 80000);
     Ok(())

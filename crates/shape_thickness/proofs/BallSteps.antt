@@ -45,7 +45,8 @@ fits (pos n) (pos x) w a b h = omega (arith, ints)
 fits (negsuc n) (pos x) w a b h = absurd (omega (arith, ints))
 fits n (negsuc x) w a b h = absurd (omega (arith, ints))
 
-module _ (greatest : ℤ) (ns c q : Point) (s w rest : ℕ) (sides : AreSides greatest ns) (some : 0 < length ns) (ci : IsTrue (in_box (sides_of ns) c)) (qi : IsTrue (in_box (sides_of ns) q))
+module _ (greatest : ℤ) (ns c q : Point) (s w rest : ℕ) (sides : AreSides greatest ns) (some : 0 < length ns) (ci : IsTrue (in_box (sides_of ns) c))
+    (qi : IsTrue (in_box (sides_of ns) q))
     (within : (coordinate q 0 +ℤ pos w) ≤ℤ coordinate ns 0) (is : rest ≡ squared_distance c (set q 0 (coordinate c 0))) where
   abbrev pub start : ℕ
   start = raster_number (sides_of ns) q
@@ -57,7 +58,8 @@ module _ (greatest : ℤ) (ns c q : Point) (s w rest : ℕ) (sides : AreSides gr
   pub room : (t : ℕ) → t ≤ w → start + t ≤ box_count (sides_of ns)
   room = go greatest ns c q sides some qi within
     where
-      go : (greatest : ℤ) (ns c q : Point) → AreSides greatest ns → 0 < length ns → IsTrue (in_box (sides_of ns) q) → (coordinate q 0 +ℤ pos w) ≤ℤ coordinate ns 0 → (t : ℕ) → t ≤ w → raster_number (sides_of ns) q + t ≤ box_count (sides_of ns)
+      go : (greatest : ℤ) (ns c q : Point) → AreSides greatest ns → 0 < length ns → IsTrue (in_box (sides_of ns) q)
+          → (coordinate q 0 +ℤ pos w) ≤ℤ coordinate ns 0 → (t : ℕ) → t ≤ w → raster_number (sides_of ns) q + t ≤ box_count (sides_of ns)
       go greatest [] c q sides some qi within t l = absurd (omega arith)
       go greatest (n ∷ ns) c [] sides some qi within t l = cc
       go greatest (n ∷ ns) c (x ∷ q) sides some qi within t l =
@@ -69,8 +71,10 @@ module _ (greatest : ℤ) (ns c q : Point) (s w rest : ℕ) (sides : AreSides gr
   near_at : (t : ℕ) → t < w → IsNearPlace (sides_of ns) c s (start + t) ↔ (gap t * gap t + rest < s)
   near_at = go greatest ns c q sides some ci qi within is
     where
-      go : (greatest : ℤ) (ns c q : Point) → AreSides greatest ns → 0 < length ns → IsTrue (in_box (sides_of ns) c) → IsTrue (in_box (sides_of ns) q) → (coordinate q 0 +ℤ pos w) ≤ℤ coordinate ns 0 → rest ≡ squared_distance c (set q 0 (coordinate c 0))
-          → (t : ℕ) → t < w → IsNearPlace (sides_of ns) c s (raster_number (sides_of ns) q + t) ↔ (nat_abs (coordinate c 0 -ℤ (coordinate q 0 +ℤ pos t)) * nat_abs (coordinate c 0 -ℤ (coordinate q 0 +ℤ pos t)) + rest < s)
+      go : (greatest : ℤ) (ns c q : Point) → AreSides greatest ns → 0 < length ns → IsTrue (in_box (sides_of ns) c) → IsTrue (in_box (sides_of ns) q)
+          → (coordinate q 0 +ℤ pos w) ≤ℤ coordinate ns 0 → rest ≡ squared_distance c (set q 0 (coordinate c 0))
+          → (t : ℕ) → t < w → IsNearPlace (sides_of ns) c s (raster_number (sides_of ns) q + t)
+          ↔ (nat_abs (coordinate c 0 -ℤ (coordinate q 0 +ℤ pos t)) * nat_abs (coordinate c 0 -ℤ (coordinate q 0 +ℤ pos t)) + rest < s)
       go greatest [] c q sides some ci qi within is t l = absurd (omega arith)
       go greatest (n ∷ ns) [] q sides some ci qi within is t l = cc
       go greatest (n ∷ ns) (y ∷ c) [] sides some ci qi within is t l = cc
@@ -94,9 +98,12 @@ module _ (greatest : ℤ) (ns c q : Point) (s w rest : ℕ) (sides : AreSides gr
       absurd (omega (arith, n, far)))
 
   -- a row whose stretch is painted
-  pub row_painted : (i from to : ℕ) (old new : List ℕ) → rest < s → to ≤ w → ((t : ℕ) → t < w → ((from ≤ t) × (t < to)) ↔ (gap t * gap t ≤ s - 1 - rest)) → i ≡ start
-      → IsPainted (IsFrom (i + from) (i + to)) (IsFrom (i + from) (i + to)) s old new → IsPainted (IsNearPlace (sides_of ns) c s) (IsNearRow (sides_of ns) c s q w) s old new
-  row_painted i from to old new near fit cut e p = painted_as (IsFrom (i + from) (i + to)) (IsFrom (i + from) (i + to)) (IsNearPlace (sides_of ns) c s) (IsNearRow (sides_of ns) c s q w) s old new
+  pub row_painted : (i from to : ℕ) (old new : List ℕ) → rest < s → to ≤ w → ((t : ℕ) → t < w → ((from ≤ t) × (t < to)) ↔ (gap t * gap t ≤ s - 1 - rest))
+      → i ≡ start
+      → IsPainted (IsFrom (i + from) (i + to)) (IsFrom (i + from) (i + to)) s old new
+      → IsPainted (IsNearPlace (sides_of ns) c s) (IsNearRow (sides_of ns) c s q w) s old new
+  row_painted i from to old new near fit cut e p = painted_as (IsFrom (i + from) (i + to)) (IsFrom (i + from) (i + to)) (IsNearPlace (sides_of ns) c s)
+      (IsNearRow (sides_of ns) c s q w) s old new
       (λ j l h.
       let u = h.0 in
       let v = h.1 in
@@ -120,7 +127,8 @@ module _ (greatest : ℤ) (ns c q : Point) (s w rest : ℕ) (sides : AreSides gr
 
 -- ---- the rows of a window
 
-module _ (greatest : ℤ) (ns c low counts : Point) (reach : ℕ) (sides : AreSides greatest ns) (flat : greatest ≤ℤ pos most_flat) (w : IsWindow ns c reach low counts) where
+module _ (greatest : ℤ) (ns c low counts : Point) (reach : ℕ) (sides : AreSides greatest ns) (flat : greatest ≤ℤ pos most_flat)
+    (w : IsWindow ns c reach low counts) where
   -- the first point of a window has small coordinates
   pub low_within : IsWithin (pos 0) (pos most_coordinate) low
   low_within k l =
@@ -151,8 +159,10 @@ module _ (greatest : ℤ) (ns c low counts : Point) (reach : ℕ) (sides : AreSi
   width_some some = let e = width_is some in let t = (w.spans 0 some).some in omega (arith, ints, e, t)
 
   -- the numbers of the places of a row
-  row_numbers : (ns low counts : Point) (r t : ℕ) → 0 < length ns → length low ≡ length ns → length counts ≡ length ns → pos 0 ≤ℤ coordinate low 0 → t < nat_abs (coordinate counts 0)
-      → raster_number (sides_of ns) (moved low (raster_point (sides_of counts) (r * nat_abs (coordinate counts 0) + t))) ≡ raster_number (sides_of ns) (moved low (raster_point (sides_of counts) (r * nat_abs (coordinate counts 0)))) + t
+  row_numbers : (ns low counts : Point) (r t : ℕ) → 0 < length ns → length low ≡ length ns → length counts ≡ length ns → pos 0 ≤ℤ coordinate low 0
+      → t < nat_abs (coordinate counts 0)
+      → raster_number (sides_of ns) (moved low (raster_point (sides_of counts) (r * nat_abs (coordinate counts 0) + t))) ≡ raster_number (sides_of ns)
+      (moved low (raster_point (sides_of counts) (r * nat_abs (coordinate counts 0)))) + t
   row_numbers [] low counts r t some a b z l = absurd (omega arith)
   row_numbers (n ∷ ns) [] counts r t some a b z l = absurd (omega arith)
   row_numbers (n ∷ ns) (x ∷ low) [] r t some a b z l = absurd (omega arith)
@@ -160,21 +170,25 @@ module _ (greatest : ℤ) (ns c low counts : Point) (reach : ℕ) (sides : AreSi
       let p = moved low (raster_point (sides_of counts) r) in
       let here = window_point (nat_abs m) (sides_of counts) r t l in
       let none : r * nat_abs m ≡ r * nat_abs m + 0 = omega arith in
-      let first : raster_point (nat_abs m ∷ sides_of counts) (r * nat_abs m) ≡ pos 0 ∷ raster_point (sides_of counts) r = ap (raster_point (nat_abs m ∷ sides_of counts)) none ∙ window_point (nat_abs m) (sides_of counts) r 0 (omega arith) in
+      let first : raster_point (nat_abs m ∷ sides_of counts) (r * nat_abs m) ≡ pos 0 ∷ raster_point (sides_of counts) r =
+      ap (raster_point (nat_abs m ∷ sides_of counts)) none ∙ window_point (nat_abs m) (sides_of counts) r 0 (omega arith) in
       let u = ap (λ (v : Point). raster_number (sides_of (n ∷ ns)) (moved (x ∷ low) v)) here ∙ row_number (nat_abs n) (sides_of ns) x p t z in
       let v = ap (λ (v : Point). raster_number (sides_of (n ∷ ns)) (moved (x ∷ low) v)) first ∙ row_number (nat_abs n) (sides_of ns) x p 0 z in
       omega (arith, u, v)
 
   -- the first coordinate of each row is that of the window
   pub head_first : (r : ℕ) → 0 < length ns → coordinate (head r) 0 ≡ coordinate low 0
-  head_first r some = go low counts r (let e = w.low_axes in omega (arith, e, some)) (let e = w.low_axes in let f = w.count_axes in omega (arith, e, f)) (width_some some)
+  head_first r some = go low counts r (let e = w.low_axes in omega (arith, e, some)) (let e = w.low_axes in let f = w.count_axes in omega (arith, e, f))
+      (width_some some)
     where
-      go : (low counts : Point) (r : ℕ) → 0 < length low → length counts ≡ length low → 0 < nat_abs (coordinate counts 0) → coordinate (moved low (raster_point (sides_of counts) (r * nat_abs (coordinate counts 0)))) 0 ≡ coordinate low 0
+      go : (low counts : Point) (r : ℕ) → 0 < length low → length counts ≡ length low → 0 < nat_abs (coordinate counts 0)
+          → coordinate (moved low (raster_point (sides_of counts) (r * nat_abs (coordinate counts 0)))) 0 ≡ coordinate low 0
       go [] counts r some e m = absurd (omega arith)
       go (x ∷ low) [] r some e m = absurd (omega arith)
       go (x ∷ low) (n ∷ counts) r some e m =
           let none : r * nat_abs n ≡ r * nat_abs n + 0 = omega arith in
-          let first : raster_point (nat_abs n ∷ sides_of counts) (r * nat_abs n) ≡ pos 0 ∷ raster_point (sides_of counts) r = ap (raster_point (nat_abs n ∷ sides_of counts)) none ∙ window_point (nat_abs n) (sides_of counts) r 0 m in
+          let first : raster_point (nat_abs n ∷ sides_of counts) (r * nat_abs n) ≡ pos 0 ∷ raster_point (sides_of counts) r =
+          ap (raster_point (nat_abs n ∷ sides_of counts)) none ∙ window_point (nat_abs n) (sides_of counts) r 0 m in
           let z : x +ℤ pos 0 ≡ x = omega (arith, ints) in
           ap (λ (v : Point). coordinate (moved (x ∷ low) v) 0) first ∙ z
 
@@ -191,9 +205,11 @@ module _ (greatest : ℤ) (ns c low counts : Point) (reach : ℕ) (sides : AreSi
 
     -- one row more
     pub row_more : (r : ℕ) (q : Point) (old now new : List ℕ) → length old ≡ box_count (sides_of ns) → q ≡ head r
-        → IsPainted (IsNearPlace (sides_of ns) c s) (IsNearBefore r) s old now → IsPainted (IsNearPlace (sides_of ns) c s) (IsNearRow (sides_of ns) c s q width) s now new
+        → IsPainted (IsNearPlace (sides_of ns) c s) (IsNearBefore r) s old now
+        → IsPainted (IsNearPlace (sides_of ns) c s) (IsNearRow (sides_of ns) c s q width) s now new
         → IsPainted (IsNearPlace (sides_of ns) c s) (IsNearBefore (r + 1)) s old new
-    row_more r q old now new filled e p here = painted_then (IsNearPlace (sides_of ns) c s) (IsNearBefore r) (IsNearRow (sides_of ns) c s q width) (IsNearBefore (r + 1)) s old now new
+    row_more r q old now new filled e p here = painted_then (IsNearPlace (sides_of ns) c s) (IsNearBefore r) (IsNearRow (sides_of ns) c s q width)
+        (IsNearBefore (r + 1)) s old now new
         (λ j l h. elim (dec_lt (number_at (sides_of ns) (sides_of counts) low j) (r * width)) [
           | yes m ↦ inl (h.0, m)
           | no m ↦ (
@@ -205,33 +221,41 @@ module _ (greatest : ℤ) (ns c low counts : Point) (reach : ℕ) (sides : AreSi
               let b : t < width = omega (arith, v, next, m) in
               let u : j < box_count (sides_of ns) = omega (arith, l, filled) in
               let pt = raster_point (sides_of ns) j in
-              let near = near_number greatest ns c low counts reach sides flat w s known ci pt (raster_point_in (sides_of ns) j u) (ltb-true (squared_distance c pt) s h.0) in
-              let number : raster_number (sides_of ns) (moved low (raster_point (sides_of counts) k)) ≡ j = ap (raster_number (sides_of ns)) near.1 ∙ raster_number-raster_point (sides_of ns) j u in
+              let near = near_number greatest ns c low counts reach sides flat w s known ci pt (raster_point_in (sides_of ns) j u)
+              (ltb-true (squared_distance c pt) s h.0) in
+              let number : raster_number (sides_of ns) (moved low (raster_point (sides_of counts) k)) ≡ j = ap (raster_number (sides_of ns)) near.1
+              ∙ raster_number-raster_point (sides_of ns) j u in
               let row = row_numbers ns low counts r t some w.low_axes w.count_axes (w.spans 0 some).from b in
-              let g : raster_number (sides_of ns) (moved low (raster_point (sides_of counts) (r * width + t))) ≡ j = ap (λ k. raster_number (sides_of ns) (moved low (raster_point (sides_of counts) k))) f ∙ number in
+              let g : raster_number (sides_of ns) (moved low (raster_point (sides_of counts) (r * width + t))) ≡ j =
+              ap (λ k. raster_number (sides_of ns) (moved low (raster_point (sides_of counts) k))) f ∙ number in
               let i : raster_number (sides_of ns) q ≡ raster_number (sides_of ns) (head r) = ap (raster_number (sides_of ns)) e in
               inr (h.0, (omega (arith, row, g, i), omega (arith, row, g, i, b))))
         ])
         p here
 
     -- all rows
-    pub rows_all : (r : ℕ) (old new : List ℕ) → length old ≡ box_count (sides_of ns) → box_count (sides_of counts) ≤ r * width → IsPainted (IsNearPlace (sides_of ns) c s) (IsNearBefore r) s old new
+    pub rows_all : (r : ℕ) (old new : List ℕ) → length old ≡ box_count (sides_of ns) → box_count (sides_of counts) ≤ r * width
+        → IsPainted (IsNearPlace (sides_of ns) c s) (IsNearBefore r) s old new
         → IsPainted (IsNearPlace (sides_of ns) c s) (IsNearPlace (sides_of ns) c s) s old new
-    rows_all r old new filled all p = painted_as (IsNearPlace (sides_of ns) c s) (IsNearBefore r) (IsNearPlace (sides_of ns) c s) (IsNearPlace (sides_of ns) c s) s old new (λ j l h. h)
+    rows_all r old new filled all p = painted_as (IsNearPlace (sides_of ns) c s) (IsNearBefore r) (IsNearPlace (sides_of ns) c s)
+        (IsNearPlace (sides_of ns) c s) s old new (λ j l h. h)
         (λ j l h. (h, (let b = near_below greatest ns c low counts reach sides flat w s known ci j (omega (arith, l, filled)) h in omega (arith, b, all)))) p
 
     pub rows_none : (old : List ℕ) → IsPainted (IsNearPlace (sides_of ns) c s) (IsNearBefore 0) s old old
     rows_none old = painted_none (IsNearPlace (sides_of ns) c s) (IsNearBefore 0) s old (λ j l h. absurd (let v = h.1 in omega arith))
 
 -- the rows of a box: as many as its places by the width
-pub rows_of : (counts : Point) → 0 < length counts → 0 < nat_abs (coordinate counts 0) → (box_count (sides_of counts) / nat_abs (coordinate counts 0)) * nat_abs (coordinate counts 0) ≡ box_count (sides_of counts)
+pub rows_of : (counts : Point) → 0 < length counts → 0 < nat_abs (coordinate counts 0)
+    → (box_count (sides_of counts) / nat_abs (coordinate counts 0)) * nat_abs (coordinate counts 0) ≡ box_count (sides_of counts)
 rows_of [] l m = absurd (omega arith)
 rows_of (n ∷ counts) l m =
-    let e : (nat_abs n * box_count (sides_of counts)) / nat_abs n ≡ box_count (sides_of counts) = ap (λ z. z / nat_abs n) (mul_comm (nat_abs n) (box_count (sides_of counts))) ∙ mul-div_cancel (box_count (sides_of counts)) m in
+    let e : (nat_abs n * box_count (sides_of counts)) / nat_abs n ≡ box_count (sides_of counts) =
+    ap (λ z. z / nat_abs n) (mul_comm (nat_abs n) (box_count (sides_of counts))) ∙ mul-div_cancel (box_count (sides_of counts)) m in
     ap (λ z. z * nat_abs n) e ∙ mul_comm (box_count (sides_of counts)) (nat_abs n)
 
 -- a row begins before the end of the box
-pub row_start : (counts : Point) (r : ℕ) → 0 < length counts → 0 < nat_abs (coordinate counts 0) → r < box_count (sides_of counts) / nat_abs (coordinate counts 0) → r * nat_abs (coordinate counts 0) < box_count (sides_of counts)
+pub row_start : (counts : Point) (r : ℕ) → 0 < length counts → 0 < nat_abs (coordinate counts 0)
+    → r < box_count (sides_of counts) / nat_abs (coordinate counts 0) → r * nat_abs (coordinate counts 0) < box_count (sides_of counts)
 row_start counts r l m h =
     let w = nat_abs (coordinate counts 0) in
     let e = rows_of counts l m in
@@ -240,7 +264,8 @@ row_start counts r l m h =
     omega (arith, e, b, s, m)
 
 -- behind the last row the box ends
-pub row_last : (counts : Point) (r : ℕ) → 0 < length counts → 0 < nat_abs (coordinate counts 0) → box_count (sides_of counts) / nat_abs (coordinate counts 0) ≤ r → box_count (sides_of counts) ≤ r * nat_abs (coordinate counts 0)
+pub row_last : (counts : Point) (r : ℕ) → 0 < length counts → 0 < nat_abs (coordinate counts 0)
+    → box_count (sides_of counts) / nat_abs (coordinate counts 0) ≤ r → box_count (sides_of counts) ≤ r * nat_abs (coordinate counts 0)
 row_last counts r l m h =
     let w = nat_abs (coordinate counts 0) in
     let e = rows_of counts l m in

@@ -20,10 +20,14 @@ use Rattle.shape_thickness.proofs.CentreSteps.{centre_of, centre_below, centre_o
 -- the balls of the centres with numbers from k on are painted: what a place has is of one of them that holds it, and no less than any of them that holds it
 pub record ArePaintedFrom (sides : List ℕ) (centres : List Centre) (k : ℕ) (values : List ℕ) : Type 0 where
   pub filled : length values ≡ box_count sides
-  pub from : (j : ℕ) → j < length values → 0 < slice_index values j → (m : ℕ) × (k ≤ m) × (m < length centres) × (slice_index values j ≡ (centre_of centres m).s) × IsNearPlace sides (raster_point sides (centre_of centres m).place) (centre_of centres m).s j
-  pub passed : (j m : ℕ) → j < length values → k ≤ m → m < length centres → IsNearPlace sides (raster_point sides (centre_of centres m).place) (centre_of centres m).s j → (0 < slice_index values j) × ((centre_of centres m).s ≤ slice_index values j)
+  pub from : (j : ℕ) → j < length values → 0 < slice_index values j → (m : ℕ) × (k ≤ m) × (m < length centres)
+      × (slice_index values j ≡ (centre_of centres m).s) × IsNearPlace sides (raster_point sides (centre_of centres m).place) (centre_of centres m).s j
+  pub passed : (j m : ℕ) → j < length values → k ≤ m → m < length centres
+      → IsNearPlace sides (raster_point sides (centre_of centres m).place) (centre_of centres m).s j
+      → (0 < slice_index values j) × ((centre_of centres m).s ≤ slice_index values j)
 
-pub painted_start : (sides : List ℕ) (centres : List Centre) (k : ℕ) (values : List ℕ) → length centres ≤ k → length values ≡ box_count sides → ((j : ℕ) → j < length values → slice_index values j ≡ 0) → ArePaintedFrom sides centres k values
+pub painted_start : (sides : List ℕ) (centres : List Centre) (k : ℕ) (values : List ℕ) → length centres ≤ k → length values ≡ box_count sides
+    → ((j : ℕ) → j < length values → slice_index values j ≡ 0) → ArePaintedFrom sides centres k values
 painted_start sides centres k values l e z = record {
   filled = e;
   from = λ j b h. (let n = z j b in absurd (omega (arith, n, h)));
@@ -32,7 +36,8 @@ painted_start sides centres k values l e z = record {
 
 module _ (X : Picture) (ds : List ℕ) (centres : List Centre) (a : AreRising X ds centres) where
   pub painted_more : (k : ℕ) (old new : List ℕ) → k < length centres → ArePaintedFrom X.sides centres (k + 1) old
-      → IsPainted (IsNearPlace X.sides (raster_point X.sides (centre_of centres k).place) (centre_of centres k).s) (IsNearPlace X.sides (raster_point X.sides (centre_of centres k).place) (centre_of centres k).s) (centre_of centres k).s old new
+      → IsPainted (IsNearPlace X.sides (raster_point X.sides (centre_of centres k).place) (centre_of centres k).s)
+      (IsNearPlace X.sides (raster_point X.sides (centre_of centres k).place) (centre_of centres k).s) (centre_of centres k).s old new
       → ArePaintedFrom X.sides centres k new
   painted_more k old new l h p =
       let s = (centre_of centres k).s in
@@ -51,7 +56,8 @@ module _ (X : Picture) (ds : List ℕ) (centres : List Centre) (a : AreRising X 
               (omega (arith, e, old_one.0), omega (arith, e, old_one.1)))
           | no d ↦ (
               let q : m ≡ k = omega arith in
-              let some = p.filled j (omega arith) (subst (λ m. IsNearPlace X.sides (raster_point X.sides (centre_of centres m).place) (centre_of centres m).s j) q near) in
+              let some = p.filled j (omega arith)
+              (subst (λ m. IsNearPlace X.sides (raster_point X.sides (centre_of centres m).place) (centre_of centres m).s j) q near) in
               let most : s ≤ slice_index new j = elim (p.each j (omega arith)) [
                 | inl e ↦ (
                     let f = h.from j (omega arith) (omega (arith, some, e)) in
@@ -71,7 +77,8 @@ module _ (X : Picture) (ds : List ℕ) (centres : List Centre) (a : AreRising X 
   point_of m = raster_point X.sides (centre_of centres m).place
 
   square_of : (m : ℕ) → m < length centres → square_at X ds (point_of m) ≡ (centre_of centres m).s
-  square_of m l = ap (slice_index ds) (raster_number-raster_point X.sides (centre_of centres m).place (centre_below X ds centres a m l)) ∙ sym (centre_square X ds centres a m l)
+  square_of m l = ap (slice_index ds) (raster_number-raster_point X.sides (centre_of centres m).place (centre_below X ds centres a m l))
+      ∙ sym (centre_square X ds centres a m l)
 
   held : (m j : ℕ) → m < length centres → IsNearPlace X.sides (point_of m) (centre_of centres m).s j → IsHeld X ds (point_of m) (raster_point X.sides j)
   held m j l near =
@@ -89,7 +96,8 @@ module _ (X : Picture) (ds : List ℕ) (centres : List Centre) (a : AreRising X 
       let k = m.0 in
       let at_c : point_of k ≡ c = ap (raster_point X.sides) m.2 ∙ back in
       let is : (centre_of centres k).s ≡ square_at X ds c = centre_square X ds centres a k m.1 ∙ ap (slice_index ds) m.2 in
-      let t : squared_distance (point_of k) (raster_point X.sides j) ≡ squared_distance c (raster_point X.sides j) = ap (λ c. squared_distance c (raster_point X.sides j)) at_c in
+      let t : squared_distance (point_of k) (raster_point X.sides j) ≡ squared_distance c (raster_point X.sides j) =
+      ap (λ c. squared_distance c (raster_point X.sides j)) at_c in
       let near = lt-ltb (squared_distance (point_of k) (raster_point X.sides j)) (centre_of centres k).s (let n = b.nearer in omega (arith, t, is, n)) in
       let r = h.passed j k l (omega arith) m.1 near in
       let v = r.1 in omega (arith, is, v)

@@ -1,6 +1,7 @@
 -- The greatest squares of balls as a function of the picture and the squares.
 -- Laws over pictures and lists alone.
-use Rattle.std.proofs.Common.{◌≡◌, ◌⊎◌, inl, inr, ℕ, ◌+◌, ◌<◌, ◌≤◌, Bool, zero, suc, [], ◌∷◌, true, false, refl, ap, sym, ◌∙◌, subst, arith, List, length, map, get_or, max}
+use Rattle.std.proofs.Common.{◌≡◌, ◌⊎◌, inl, inr, ℕ, ◌+◌, ◌<◌, ◌≤◌, Bool, zero, suc, [], ◌∷◌, true, false, refl, ap, sym, ◌∙◌, subst, arith, List, length, map}
+use Rattle.std.proofs.Common.{get_or, max}
 use Rattle.std.specs.Prelude.{slice_index, nat_lt, ◌&&◌, if◌then◌else◌}
 use Rattle.std.proofs.lemmas.Bool.{ltb-true, lt-ltb}
 use Rattle.std.proofs.lemmas.List.{ext_get_or, length-map, get_or-map}
@@ -47,7 +48,8 @@ passes false b s h = absurd (omega (arith, h))
 
 module _ (X : Picture) (ds : List ℕ) (p c : Point) where
   held_ball : IsHeld X ds c p → ball_square X ds p c ≡ square_at X ds c
-  held_ball h = tested (at X c) (nat_lt (squared_distance c p) (square_at X ds c)) (square_at X ds c) h.object (lt-ltb (squared_distance c p) (square_at X ds c) h.nearer)
+  held_ball h = tested (at X c) (nat_lt (squared_distance c p) (square_at X ds c)) (square_at X ds c) h.object
+      (lt-ltb (squared_distance c p) (square_at X ds c) h.nearer)
 
   some_ball : 0 < ball_square X ds p c → IsHeld X ds c p
   some_ball l =
@@ -76,7 +78,8 @@ module _ (X : Picture) (ds : List ℕ) (i : ℕ) where
       let inside = object_in_box X c h.object in
       let k = raster_number X.sides c in
       let b : k < box_count X.sides = raster_below X.sides c inside in
-      let e = ball_at k b ∙ (ap (ball_square X ds (raster_point X.sides i)) (raster_point-raster_number X.sides c inside) ∙ held_ball X ds (raster_point X.sides i) c h) in
+      let e = ball_at k b ∙ (ap (ball_square X ds (raster_point X.sides i)) (raster_point-raster_number X.sides c inside)
+      ∙ held_ball X ds (raster_point X.sides i) c h) in
       let o = one_of balls k (let z = long in omega (arith, b, z)) in
       omega (arith, e, o)
 
@@ -108,7 +111,8 @@ module _ (X : Picture) (ds : List ℕ) where
 
   place_at : (i : ℕ) → i < box_count X.sides → slice_index (map square (box_points X.sides)) i ≡ greatest_of (balls X ds i)
   unfolding square
-  place_at i b = get_or-map square (box_points X.sides) i [] 0 (omega (arith, b, length-box_points X.sides)) ∙ (ap square (get_or-box_points X.sides i [] b) ∙ sym (greatest_balls X ds i))
+  place_at i b = get_or-map square (box_points X.sides) i [] 0 (omega (arith, b, length-box_points X.sides))
+      ∙ (ap square (get_or-box_points X.sides i [] b) ∙ sym (greatest_balls X ds i))
 
   are : AreGreatest X ds (map square (box_points X.sides))
   are = record {

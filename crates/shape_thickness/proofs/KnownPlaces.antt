@@ -28,7 +28,8 @@ known_none sides Y values e = record {
 }
 
 -- one place more
-pub known_place : (sides : List ℕ) (Y Z : Picture) (values : List ℕ) (i : ℕ) → i < box_count sides → 0 < slice_index values i → Z ≡ record { sides = Y.sides; values = set Y.values i true }
+pub known_place : (sides : List ℕ) (Y Z : Picture) (values : List ℕ) (i : ℕ) → i < box_count sides → 0 < slice_index values i
+    → Z ≡ record { sides = Y.sides; values = set Y.values i true }
     → IsKnown sides Y values → IsKnown sides Z values
 known_place sides Y Z values i inside some e h =
     let same : Y.sides ≡ sides = h.sides_are in
@@ -49,7 +50,8 @@ known_place sides Y Z values i inside some e h =
     }
 
 -- what is painted stays
-pub known_more : (sides : List ℕ) (Y : Picture) (may must : ℕ → Type 0) (s : ℕ) (old new : List ℕ) → length old ≡ box_count sides → IsPainted may must s old new → IsKnown sides Y old → IsKnown sides Y new
+pub known_more : (sides : List ℕ) (Y : Picture) (may must : ℕ → Type 0) (s : ℕ) (old new : List ℕ) → length old ≡ box_count sides → IsPainted may must s old new
+    → IsKnown sides Y old → IsKnown sides Y new
 known_more sides Y may must s old new filled p h = record {
   sides_are = h.sides_are;
   painted = λ i l o.
@@ -61,7 +63,8 @@ known_more sides Y may must s old new filled p h = record {
 -- ---- balls of known places
 
 -- what is nearer to a place than the square of its depth is object
-pub deep : (Y : Picture) (ds : List ℕ) (place s d j : ℕ) → AreDistances Y ds → place < box_count Y.sides → at Y (raster_point Y.sides place) ≡ true → slice_get ds place ≡ Some d → s ≤ d → j < box_count Y.sides
+pub deep : (Y : Picture) (ds : List ℕ) (place s d j : ℕ) → AreDistances Y ds → place < box_count Y.sides → at Y (raster_point Y.sides place) ≡ true
+    → slice_get ds place ≡ Some d → s ≤ d → j < box_count Y.sides
     → is_nearer (raster_point Y.sides place) s (raster_point Y.sides j) ≡ true → at Y (raster_point Y.sides j) ≡ true
 deep Y ds place s d j are inside o read most l near = by_value (at Y (raster_point Y.sides j)) refl
   where
@@ -71,14 +74,17 @@ deep Y ds place s d j are inside o read most l near = by_value (at Y (raster_poi
         let n = ltb-true (squared_distance (raster_point Y.sides place) (raster_point Y.sides j)) s near in
         let has = are.least (raster_point Y.sides place) o in
         let least = has.1.least (raster_point Y.sides j) (record { point = length-raster_point Y.sides j; value = e }) in
-        let is : slice_index ds (raster_number Y.sides (raster_point Y.sides place)) ≡ d = ap (slice_index ds) (raster_number-raster_point Y.sides place inside) ∙ get_or_from_slice_get ds place d 0 read in
+        let is : slice_index ds (raster_number Y.sides (raster_point Y.sides place)) ≡ d = ap (slice_index ds) (raster_number-raster_point Y.sides place inside)
+        ∙ get_or_from_slice_get ds place d 0 read in
         absurd (omega (arith, n, least, is, most))
 
 -- a ball of known places has nothing left to paint
 pub painted_ball : (sides : List ℕ) (Y : Picture) (place s : ℕ) (values : List ℕ) → length values ≡ box_count sides → IsKnown sides Y values
     → ((j : ℕ) → j < box_count Y.sides → is_nearer (raster_point Y.sides place) s (raster_point Y.sides j) ≡ true → at Y (raster_point Y.sides j) ≡ true)
     → IsPainted (IsNearPlace sides (raster_point sides place) s) (IsNearPlace sides (raster_point sides place) s) s values values
-painted_ball sides Y place s values filled h hold = painted_none (IsNearPlace sides (raster_point sides place) s) (IsNearPlace sides (raster_point sides place) s) s values (λ j l near.
-    let all = subst (λ n. (j : ℕ) → j < box_count n → is_nearer (raster_point n place) s (raster_point n j) ≡ true → at Y (raster_point n j) ≡ true) h.sides_are hold in
+painted_ball sides Y place s values filled h hold = painted_none (IsNearPlace sides (raster_point sides place) s)
+    (IsNearPlace sides (raster_point sides place) s) s values (λ j l near.
+    let all = subst (λ n. (j : ℕ) → j < box_count n → is_nearer (raster_point n place) s (raster_point n j) ≡ true → at Y (raster_point n j) ≡ true) h.sides_are
+    hold in
     let b : j < box_count sides = omega (arith, l, filled) in
     h.painted j b (all j b near))

@@ -13,7 +13,8 @@ pub painted_none : (may must : ℕ → Type 0) (s : ℕ) (xs : List ℕ) → ((j
 painted_none may must s xs h = record { same_length = refl; each = λ j l. inl refl; filled = h }
 
 -- more may be painted, and less must be
-pub painted_as : (may must may2 must2 : ℕ → Type 0) (s : ℕ) (old new : List ℕ) → ((j : ℕ) → j < length old → may j → may2 j) → ((j : ℕ) → j < length old → must2 j → must j) → IsPainted may must s old new → IsPainted may2 must2 s old new
+pub painted_as : (may must may2 must2 : ℕ → Type 0) (s : ℕ) (old new : List ℕ) → ((j : ℕ) → j < length old → may j → may2 j)
+    → ((j : ℕ) → j < length old → must2 j → must j) → IsPainted may must s old new → IsPainted may2 must2 s old new
 painted_as may must may2 must2 s old new f g p = record {
   same_length = p.same_length;
   each = λ j l. elim (p.each j l) [ inl e ↦ inl e | inr h ↦ inr (h.0, h.1, f j l h.2) ];
@@ -21,11 +22,13 @@ painted_as may must may2 must2 s old new f g p = record {
 }
 
 -- what is painted stays
-pub painted_stays : (may must : ℕ → Type 0) (s : ℕ) (old new : List ℕ) (j : ℕ) → IsPainted may must s old new → j < length old → 0 < slice_index old j → slice_index new j ≡ slice_index old j
+pub painted_stays : (may must : ℕ → Type 0) (s : ℕ) (old new : List ℕ) (j : ℕ) → IsPainted may must s old new → j < length old → 0 < slice_index old j
+    → slice_index new j ≡ slice_index old j
 painted_stays may must s old new j p l h = elim (p.each j l) [ inl e ↦ e | inr f ↦ (let z = f.0 in absurd (omega arith)) ]
 
 -- one painting after the other
-pub painted_then : (may a b must : ℕ → Type 0) (s : ℕ) (old now new : List ℕ) → ((j : ℕ) → j < length old → must j → a j ⊎ b j) → IsPainted may a s old now → IsPainted may b s now new → IsPainted may must s old new
+pub painted_then : (may a b must : ℕ → Type 0) (s : ℕ) (old now new : List ℕ) → ((j : ℕ) → j < length old → must j → a j ⊎ b j) → IsPainted may a s old now
+    → IsPainted may b s now new → IsPainted may must s old new
 painted_then may a b must s old now new f p q =
     let m = p.same_length in
     record {
@@ -43,15 +46,18 @@ painted_then may a b must s old now new f p q =
 -- ---- stretches
 
 -- one place more
-pub one_more : (first i end s : ℕ) (old now new : List ℕ) → first ≤ i → i < end → IsPainted (IsFrom first end) (IsFrom first i) s old now → IsPainted (IsFrom i (i + 1)) (IsFrom i (i + 1)) s now new → IsPainted (IsFrom first end) (IsFrom first (i + 1)) s old new
+pub one_more : (first i end s : ℕ) (old now new : List ℕ) → first ≤ i → i < end → IsPainted (IsFrom first end) (IsFrom first i) s old now
+    → IsPainted (IsFrom i (i + 1)) (IsFrom i (i + 1)) s now new → IsPainted (IsFrom first end) (IsFrom first (i + 1)) s old new
 one_more first i end s old now new a b p q =
     painted_then (IsFrom first end) (IsFrom first i) (IsFrom i (i + 1)) (IsFrom first (i + 1)) s old now new
     (λ j l h. elim (dec_lt j i) [ yes m ↦ inl (h.0, m) | no m ↦ inr (omega arith, h.1) ])
     p
-    (painted_as (IsFrom i (i + 1)) (IsFrom i (i + 1)) (IsFrom first end) (IsFrom i (i + 1)) s now new (λ j l h. (let u = h.0 in let v = h.1 in (omega arith, omega arith))) (λ j l h. h) q)
+    (painted_as (IsFrom i (i + 1)) (IsFrom i (i + 1)) (IsFrom first end) (IsFrom i (i + 1)) s now new
+    (λ j l h. (let u = h.0 in let v = h.1 in (omega arith, omega arith))) (λ j l h. h) q)
 
 -- painted ones are passed
-pub passed : (first i after end s t : ℕ) (old now new : List ℕ) → first ≤ i → new ≡ now → IsPainted (IsFrom first end) (IsFrom first i) s old now → IsPainted (IsFrom i after) (IsFrom i after) t now new → IsPainted (IsFrom first end) (IsFrom first after) s old new
+pub passed : (first i after end s t : ℕ) (old now new : List ℕ) → first ≤ i → new ≡ now → IsPainted (IsFrom first end) (IsFrom first i) s old now
+    → IsPainted (IsFrom i after) (IsFrom i after) t now new → IsPainted (IsFrom first end) (IsFrom first after) s old new
 passed first i after end s t old now new a e p q =
     let m = p.same_length in
     subst (IsPainted (IsFrom first end) (IsFrom first after) s old) (sym e) (record {
@@ -86,7 +92,8 @@ put_painted i s xs h = painted_none (IsFrom i (i + 1)) (IsFrom i (i + 1)) s xs (
 
 -- ---- what is told of the places behind
 
-pub skips_start : (n : ℕ) (values next : List ℕ) → n ≤ most_points → length values ≡ n → length next ≡ n → ((i : ℕ) → slice_index next i ≡ 0) → AreSkips values next
+pub skips_start : (n : ℕ) (values next : List ℕ) → n ≤ most_points → length values ≡ n → length next ≡ n → ((i : ℕ) → slice_index next i ≡ 0)
+    → AreSkips values next
 skips_start n values next few a b none = record {
   few = omega (arith, few, a);
   same_length = b ∙ sym a;
@@ -111,7 +118,8 @@ skips_stay may must s old new next p a =
     }
 
 -- of one place another one is told
-pub skips_told : (i n : ℕ) (values next : List ℕ) → i < length values → n ≤ length values → ((j : ℕ) → i ≤ j → j < n → 0 < slice_index values j) → AreSkips values next → AreSkips values (set next i n)
+pub skips_told : (i n : ℕ) (values next : List ℕ) → i < length values → n ≤ length values → ((j : ℕ) → i ≤ j → j < n → 0 < slice_index values j)
+    → AreSkips values next → AreSkips values (set next i n)
 skips_told i n values next l w h a =
     let m = a.same_length in
     record {

@@ -68,7 +68,8 @@ no_thinner X p s t o d h = h.greatest p s (record { object = o; distance = d; ne
 
 -- ---- one list
 
-same_at : (X : Picture) (ts us : List ℕ) (i : ℕ) (b : Bool) → AreThicknesses X ts → AreThicknesses X us → i < box_count X.sides → at X (raster_point X.sides i) ≡ b → slice_index ts i ≡ slice_index us i
+same_at : (X : Picture) (ts us : List ℕ) (i : ℕ) (b : Bool) → AreThicknesses X ts → AreThicknesses X us → i < box_count X.sides
+    → at X (raster_point X.sides i) ≡ b → slice_index ts i ≡ slice_index us i
 same_at X ts us i true a c l e =
     let p = raster_point X.sides i in
     let n : raster_number X.sides p ≡ i = raster_number-raster_point X.sides i l in

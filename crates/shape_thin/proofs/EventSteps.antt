@@ -1,5 +1,5 @@
 -- The list of the events while it grows, and as it is kept.
--- Laws over lists; what an event does stands in `thin_steps`.
+-- Laws over lists; what an event does stands in `ThinnerSteps`.
 use Rattle.std.proofs.Common.{◌≡◌, ℕ, ◌<◌, Bool, true, false, List, [], ◌∷◌, ◌++◌, length, set, get_or, sym, ◌∙◌, ap, subst, arith}
 use Rattle.std.specs.Prelude.{Some, slice_get, slice_index}
 use Rattle.std.proofs.lemmas.List.{map-append, length_push, length-set, get_or_append_left, get_or_push, get_or-set_same, get_or-set_other, ext_get_or}

@@ -1,5 +1,5 @@
 //! Ordered thinning: the nearest simple point to the background is deleted or marked, again and again.
-//! Which point is next, and what waits after it, belongs to `thin_steps`; what an end is belongs to the rule.
+//! Which point is next, and what waits after it, belongs to `Thinner`; what an end is belongs to the rule.
 ghost use Rattle.std.specs.Prelude.{◌≡◌, ◌+◌, ◌*◌, ◌≤◌, length, IfOk};
 ghost use Rattle.shape_terms.specs.Pictures.{object_points};
 ghost use Rattle.shape_terms.specs.Distances.{AreDistances};
@@ -7,6 +7,7 @@ ghost use Rattle.shape_thin.specs.Runs.{IsRunOf};
 ghost use Rattle.shape_thin.specs.Laws.{KeepsParts};
 
 use crate::events::{Done, Events};
+use crate::thinner::Thinner;
 use crate::thinning::Thinning;
 use shape_cells::Cells;
 use shape_grid::Grid;
@@ -15,7 +16,6 @@ use shape_space::{NoMemory, Steps};
 use shape_topo::SimpleMask;
 use std::alloc::Global;
 use std::sync::ledger::Ledger;
-use thin_steps::Thinner;
 
 /// The thinning of a picture by a rule, which begins anew, where the squared distances of its object points are known.
 ///

@@ -35,7 +35,8 @@ module _ (links : List ℕ) (m s : ℕ) (mf : m < 2 ^ 32) where
           let r = and_le_l (bit_or todo (bit_and (slice_index links (count_trailing_zeros 32 todo)) m)) (2 ^ 32 - 1 - next_part part todo) in
           ih (next_part part todo) (next_todo links m part todo) p (omega arith) (step_keeps links m s part todo mf pf tf z g)
 
-  pub seed_right : (n : ℕ) → s < 32 → In m s → (seed_part n links m s).1 ≡ 0 → IsComponent links m s (seed_part n links m s).0 × ((seed_part n links m s).0 < 2 ^ 32)
+  pub seed_right : (n : ℕ) → s < 32 → In m s → (seed_part n links m s).1 ≡ 0 → IsComponent links m s (seed_part n links m s).0
+      × ((seed_part n links m s).0 < 2 ^ 32)
   unfolding Right
   seed_right n h i e = grow_right n 0 (1 * 2 ^ s % 2 ^ 32) (omega arith) (omega arith) (grow_start links m s h i) e
 
@@ -51,14 +52,16 @@ module _ (w : ℕ) (links : List ℕ) (m seeds : ℕ) (mf : m < 2 ^ 32) (y : Are
   count_right (suc k) v s rest n bad e u rf g z =
       let p = seed_part w links m s in
       let h = count_bad k (s + 1) (cond (eqb (bit_at rest s) 1) (bit_and rest (2 ^ 32 - 1 - p.0)) rest) (n + bit_at rest s) (bad + bit_at rest s * p.1) in
-      count_right k v (s + 1) (cond (eqb (bit_at rest s) 1) (bit_and rest (2 ^ 32 - 1 - p.0)) rest) (n + bit_at rest s) (bad + bit_at rest s * p.1) (omega arith) u
+      count_right k v (s + 1) (cond (eqb (bit_at rest s) 1) (bit_and rest (2 ^ 32 - 1 - p.0)) rest) (n + bit_at rest s) (bad + bit_at rest s * p.1)
+      (omega arith) u
       (fits (eqb (bit_at rest s) 1)) (next (bit_at rest s) refl (omega arith)) z
     where
       fits : (b : Bool) → cond b (bit_and rest (2 ^ 32 - 1 - (seed_part w links m s).0)) rest < 2 ^ 32
       fits true = let a = and_le_l rest (2 ^ 32 - 1 - (seed_part w links m s).0) in omega arith
       fits false = rf
 
-      next : (b : ℕ) → bit_at rest s ≡ b → b * (seed_part w links m s).1 ≡ 0 → Counting links m seeds (cond (eqb b 1) (bit_and rest (2 ^ 32 - 1 - (seed_part w links m s).0)) rest) (s + 1) (n + b)
+      next : (b : ℕ) → bit_at rest s ≡ b → b * (seed_part w links m s).1 ≡ 0
+          → Counting links m seeds (cond (eqb b 1) (bit_and rest (2 ^ 32 - 1 - (seed_part w links m s).0)) rest) (s + 1) (n + b)
       next zero i j = subst (λ x. Counting links m seeds rest (s + 1) x) (omega arith) (count_skip links m seeds rest s n (λ o. omega arith) g)
       next (suc zero) i j =
           let o = seed_right links m s mf w (omega arith) (sub s ((g.1).rest_new s i).0) (omega arith) in

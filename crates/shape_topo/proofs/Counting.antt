@@ -66,7 +66,8 @@ count_skip links m seeds rest s n none (f, w) = (
   },
 )
 
-module _ (links : List ℕ) (m seeds rest s n r : ℕ) (sym' : AreSymmetric links) (mf : m < 2 ^ 32) (rf : rest < 2 ^ 32) (pf : r < 2 ^ 32) (is : In rest s) (p : IsComponent links m s r)
+module _ (links : List ℕ) (m seeds rest s n r : ℕ) (sym' : AreSymmetric links) (mf : m < 2 ^ 32) (rf : rest < 2 ^ 32) (pf : r < 2 ^ 32) (is : In rest s)
+    (p : IsComponent links m s r)
     (f : ℕ → ℕ) (w : Counted links m seeds rest s n f) where
   in? : (k : ℕ) → Dec (In r k)
   in? k = ℕ_discrete (bit_at r k) 1
@@ -121,7 +122,8 @@ module _ (links : List ℕ) (m seeds rest s n r : ℕ) (sym' : AreSymmetric link
 
   counted : Counted links m seeds rest' (s + 1) (n + 1) g
   counted = record {
-    flooded = subst (λ x. Flooded (In m) (Linked links) x g) (omega arith) (flooded_part sym' w.flooded (In r) in? s p.seed (w.rest_new s is).1 p.joined p.shut inside outside);
+    flooded = subst (λ x. Flooded (In m) (Linked links) x g) (omega arith)
+        (flooded_part sym' w.flooded (In r) in? s p.seed (w.rest_new s is).1 p.joined p.shut inside outside);
     holding = λ k a. elim (in? k) [
       | yes i ↦ (s, (w.rest_new s is).0, p.joined k i)
       | no i ↦ w.holding k (let e = outside k i in omega arith)
@@ -140,9 +142,11 @@ module _ (links : List ℕ) (m seeds rest s n r : ℕ) (sym' : AreSymmetric link
 pub count_more : (links : List ℕ) (m seeds rest s n r : ℕ) → AreSymmetric links → m < 2 ^ 32 → rest < 2 ^ 32 → r < 2 ^ 32 → In rest s → IsComponent links m s r
     → Counting links m seeds rest s n → Counting links m seeds (bit_and rest (2 ^ 32 - 1 - r)) (s + 1) (n + 1)
 unfolding rest'
-count_more links m seeds rest s n r y mf rf pf is p (f, w) = (g links m seeds rest s n r y mf rf pf is p f w, counted links m seeds rest s n r y mf rf pf is p f w)
+count_more links m seeds rest s n r y mf rf pf is p (f, w) =
+    (g links m seeds rest s n r y mf rf pf is p f w, counted links m seeds rest s n r y mf rf pf is p f w)
 
-pub count_end : (links : List ℕ) (m seeds rest v n : ℕ) → m < 2 ^ v → AreSymmetric links → ((k : ℕ) → In seeds k → In m k) → Counting links m seeds rest v n → CountsParts links m seeds n
+pub count_end : (links : List ℕ) (m seeds rest v n : ℕ) → m < 2 ^ v → AreSymmetric links → ((k : ℕ) → In seeds k → In m k) → Counting links m seeds rest v n
+    → CountsParts links m seeds n
 count_end links m seeds rest v n mf y sub (f, w) = same_parts w.holding of (f, w.flooded.parts)
   where
     along : {p q : ℕ} → 1 ≤ f p → Connected (Linked links) (In m) p q → 1 ≤ f q

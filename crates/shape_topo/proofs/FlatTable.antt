@@ -1,6 +1,7 @@
 -- The constant table of simple masks in the plane is right: it is compared with counts, and these with the numbers of components.
 -- A further dimension needs no table.
-use Rattle.std.proofs.Common.{◌≡◌, ℕ, zero, suc, ◌+◌, ◌-◌, ◌^◌, ◌<◌, ◌↔◌, List, [], ◌∷◌, Bool, true, false, ◌&&◌, eqb, slice_index_or, replicate, refl, sym, ◌∙◌, ap, subst, arith, pos}
+use Rattle.std.proofs.Common.{◌≡◌, ℕ, zero, suc, ◌+◌, ◌-◌, ◌^◌, ◌<◌, ◌↔◌, List, [], ◌∷◌, Bool, true, false, ◌&&◌, eqb, slice_index_or, replicate, refl, sym}
+use Rattle.std.proofs.Common.{◌∙◌, ap, subst, arith, pos}
 use Rattle.std.specs.Int.Bits.{bit_and}
 use Rattle.std.specs.Int.Count.{count_trailing_zeros}
 use Rattle.std.proofs.lemmas.Bool.Decides.{nat_tests}
@@ -15,7 +16,8 @@ use Rattle.shape_topo.specs.Compute.{count}
 use Rattle.shape_topo.specs.SimpleTable.{flat_near, flat_side, is_one, unset_flat, simple_flat, list_of}
 use Rattle.shape_topo.proofs.Computed.{count_is}
 use Rattle.shape_adj.proofs.MaskBits.{unset}
-use Rattle.shape_topo.proofs.MaskNumbers.{AreDark, near_symmetric, side_symmetric, object_counted, background_counted, dark_sets, dark_seeds, dark_small, round_step}
+use Rattle.shape_topo.proofs.MaskNumbers.{AreDark, near_symmetric, side_symmetric, object_counted, background_counted, dark_sets, dark_seeds, dark_small}
+use Rattle.shape_topo.proofs.MaskNumbers.{round_step}
 
 abbrev pub table : List Bool
 table =
@@ -70,7 +72,10 @@ both true b = ((λ h. (refl, h)), λ h. h.1)
 both false b = ((λ h. absurd (let t : false ≡ true = h in cc)), λ h. h.0)
 
 test_one : (a b : ℕ) → b ≡ 0 → ((eqb a 1 && eqb b 0) ≡ true) ↔ (a ≡ 1)
-test_one a b z = ((λ h. let e = ((both (eqb a 1) (eqb b 0)).0 h).0 in grind (arith, nat_tests)), λ e. (both (eqb a 1) (eqb b 0)).1 (grind (arith, nat_tests), grind (arith, nat_tests)))
+test_one a b z = (
+  (λ h. let e = ((both (eqb a 1) (eqb b 0)).0 h).0 in grind (arith, nat_tests)),
+  λ e. (both (eqb a 1) (eqb b 0)).1 (grind (arith, nat_tests), grind (arith, nat_tests)),
+)
 
 -- a whole count decides whether the number is 1
 decides : (links : List ℕ) (m seeds : ℕ) → m < 2 ^ 8 → seeds < 2 ^ 32 → AreSymmetric links → ((k : ℕ) → In seeds k → In m k)
@@ -102,7 +107,8 @@ unfolding simple_flat
 simple_flat_is m h =
     let dark = flat_dark m h in
     let o : (is_one (count 8 8 flat_near m 0 m 0 0) ≡ true) ↔ HasMaskObjectNumber 2 m 1 =
-    decides flat_near m m h (omega arith) (near_symmetric 2) (λ k i. i) (HasMaskObjectNumber 2 m) (λ n. object_counted 2 m n h) (λ n k. one_count (NearSteps 2) _ n k)
+    decides flat_near m m h (omega arith) (near_symmetric 2) (λ k i. i) (HasMaskObjectNumber 2 m) (λ n. object_counted 2 m n h)
+    (λ n k. one_count (NearSteps 2) _ n k)
     (count 8 8 flat_near m 0 m 0 0) refl (of_list (λ m. (count 8 8 flat_near m 0 m 0 0).1) 0 _ whole_object m h ∙ zero_at 256 m) in
     let b : (is_one (count 8 8 flat_side (bit_and (unset_flat m) 255) 0 (bit_and (unset_flat m) 90) 0 0) ≡ true) ↔ HasMaskBackgroundNumber 2 m 1 =
     decides flat_side (bit_and (unset_flat m) 255) (bit_and (unset_flat m) 90) (dark_small 2 m _ _ dark)

@@ -18,11 +18,13 @@ pub record IsLeft (n : Point) (i k left : ℕ) : Type 0 where
   pub below : left < box_count (sides_of (drop k n))
   pub apart : IsApartPlace (drop k n) left → IsApartPlace n i
 
-first_apart : (x : ℤ) (n : Point) (i : ℕ) → pos 1 ≤ℤ x → 1 ≤ i % nat_abs x → i % nat_abs x < nat_abs x - 1 → IsApartPlace n (i / nat_abs x) → IsApartPlace (x ∷ n) i
+first_apart : (x : ℤ) (n : Point) (i : ℕ) → pos 1 ≤ℤ x → 1 ≤ i % nat_abs x → i % nat_abs x < nat_abs x - 1 → IsApartPlace n (i / nat_abs x)
+    → IsApartPlace (x ∷ n) i
 first_apart x n i some low high h zero l = (omega (arith, ints, low), omega (arith, ints, high, some))
 first_apart x n i some low high h (suc j) l = h j (omega arith)
 
-module _ (n : Point) (i k left : ℕ) (l : k < length n) (x : ℤ) (there : x ≡ coordinate n k) (some : pos 1 ≤ℤ x) (low : 1 ≤ left % nat_abs x) (high : left % nat_abs x < nat_abs x - 1) (h : IsLeft n i k left) where
+module _ (n : Point) (i k left : ℕ) (l : k < length n) (x : ℤ) (there : x ≡ coordinate n k) (some : pos 1 ≤ℤ x) (low : 1 ≤ left % nat_abs x)
+    (high : left % nat_abs x < nat_abs x - 1) (h : IsLeft n i k left) where
   cut : drop k n ≡ x ∷ drop (k + 1) n
   cut = drop_more n k (pos 0) l ∙ ap (λ y. y ∷ drop (k + 1) n) (sym there)
 
@@ -32,12 +34,14 @@ module _ (n : Point) (i k left : ℕ) (l : k < length n) (x : ℤ) (there : x �
   -- one axis more
   pub left_more : IsLeft n i (k + 1) (left / nat_abs x)
   left_more = record {
-    below = div_below left (nat_abs x) (box_count (sides_of (drop (k + 1) n))) (omega arith) (subst (λ m. left < m) (mul_comm (nat_abs x) (box_count (sides_of (drop (k + 1) n)))) below_all);
+    below = div_below left (nat_abs x) (box_count (sides_of (drop (k + 1) n))) (omega arith)
+        (subst (λ m. left < m) (mul_comm (nat_abs x) (box_count (sides_of (drop (k + 1) n)))) below_all);
     apart = λ a. h.apart (subst (λ m. IsApartPlace m left) (sym cut) (first_apart x (drop (k + 1) n) left some low high a));
   }
 
 -- what is left before the last axis is the coordinate on it
-pub left_end : (n : Point) (i k left : ℕ) → k + 1 ≡ length n → (x : ℤ) → x ≡ coordinate n k → pos 1 ≤ℤ x → 1 ≤ left → left < nat_abs x - 1 → IsLeft n i k left → IsApartPlace n i
+pub left_end : (n : Point) (i k left : ℕ) → k + 1 ≡ length n → (x : ℤ) → x ≡ coordinate n k → pos 1 ≤ℤ x → 1 ≤ left → left < nat_abs x - 1 → IsLeft n i k left
+    → IsApartPlace n i
 left_end n i k left e x there some low high h =
     let m : left % nat_abs x ≡ left = mod-eq_of_lt (omega arith) in
     let r = left_more n i k left (omega arith) x there some (omega arith) (omega arith) h in

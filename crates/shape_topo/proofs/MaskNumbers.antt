@@ -104,7 +104,8 @@ background_of_mask d m r s n a c = parts_across
     (turned_round (holding_matches (dark_match d m r s a) (λ k i g. ((a.sides k).0 g).2) (λ k h g. (a.sides k).1 (h.0, h.1, g)))) c
 
 -- a set that has the unset places among the round ones, and one that has those of the side steps
-pub dark_sets : (d m dark all : ℕ) → ((k : ℕ) → In dark k ↔ ((k < near_total d) × (bit_at m k ≡ 0))) → ((k : ℕ) → k < near_total d → In all k ↔ Round (origin d) (near_step d k))
+pub dark_sets : (d m dark all : ℕ) → ((k : ℕ) → In dark k ↔ ((k < near_total d) × (bit_at m k ≡ 0)))
+    → ((k : ℕ) → k < near_total d → In all k ↔ Round (origin d) (near_step d k))
     → AreDark d m (bit_and dark all) (bit_and dark (side_set d))
 dark_sets d m dark all u r = record {
   round = λ k. (
@@ -194,7 +195,8 @@ module _ (Y : Picture) (p : Point) (m : ℕ) (axes : length p ≡ length Y.sides
   background_match = record {
     into = λ k h. (record { point = same_axes k h.0; value = (dark k h.0).0 h.1 }, (round_step p k h.0).0 h.2);
     once = λ k h. once_of k h.0;
-    back = λ q h. let o = of_near q h.1.0 in (o.0, (dark (of q) o.0).1 (ap (at Y) o.1 ∙ h.0.value), (round_step p (of q) o.0).1 (subst (Round p) (sym o.1) h.1));
+    back = λ q h. let o = of_near q h.1.0 in
+        (o.0, (dark (of q) o.0).1 (ap (at Y) o.1 ∙ h.0.value), (round_step p (of q) o.0).1 (subst (Round p) (sym o.1) h.1));
     again = λ q h. (of_near q h.1.0).1;
     link = λ j k x y l. (side_is j k x.0 y.0).0 l;
     unlink = λ a b x y r.

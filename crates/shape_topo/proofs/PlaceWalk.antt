@@ -64,7 +64,8 @@ module _ (m from rest : ℕ) (h : IsRest m from rest) (small : rest < 2 ^ 32) (m
           x ∙ sym y ∙ h.same j (omega arith))
     ];
     done = λ j l. elim (ℕ_discrete j (count_trailing_zeros 32 rest)) [
-      | yes e ↦ subst (λ i. bit_at (bit_and rest (bit_not w32 (1 * 2 ^ count_trailing_zeros 32 rest % 2 ^ 32))) i ≡ 0) (sym e) (bit_at_clear_same w32 rest (count_trailing_zeros 32 rest) first.0)
+      | yes e ↦ subst (λ i. bit_at (bit_and rest (bit_not w32 (1 * 2 ^ count_trailing_zeros 32 rest % 2 ^ 32))) i ≡ 0) (sym e)
+          (bit_at_clear_same w32 rest (count_trailing_zeros 32 rest) first.0)
       | no n ↦ (let f = first.0 in bit_at_clear_other w32 rest (count_trailing_zeros 32 rest) first.0 j (omega arith) n ∙ first.2 j (omega arith))
     ];
   }

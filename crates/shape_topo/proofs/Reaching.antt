@@ -62,7 +62,8 @@ reached_whole links m s rest todo seeds mf rf g flip hs within none =
 module _ (links : List ℕ) (m s rest todo : ℕ) (g : Reaching links m s rest todo) (stop : todo ≡ 0) where
   along : {p q : ℕ} → (In rest p → ⊥) → Connected (Linked links) (In m) p q → In rest q → ⊥
   along n (Connected.here y) = n
-  along {p = p} n (Connected.onward {q = q} y l c) = along (g.shut p q y n (λ t. let z : bit_at todo p ≡ 0 = ap (λ x. bit_at x p) stop ∙ bit_at-zero p in omega (arith, t, z)) l) c
+  along {p = p} n (Connected.onward {q = q} y l c) =
+      along (g.shut p q y n (λ t. let z : bit_at todo p ≡ 0 = ap (λ x. bit_at x p) stop ∙ bit_at-zero p in omega (arith, t, z)) l) c
 
   -- where none is to be followed and a seed is left, there is a second component
   pub reached_still : (seeds : ℕ) → seeds < 2 ^ 32 → In seeds s → bit_and seeds rest ≢ 0 → CountsParts links m seeds 1 → ⊥
@@ -76,7 +77,8 @@ module _ (links : List ℕ) (m s rest todo : ℕ) (g : Reaching links m s rest t
 
 -- the first step: the links of the seed
 pub reach_first : (links : List ℕ) (m s : ℕ) → m < 2 ^ 32 → s < 32 → In m s
-    → Reaching links m s (bit_and (bit_and m (2 ^ 32 - 1 - bit_and (slice_index links s) m)) (2 ^ 32 - 1 - 1 * 2 ^ s % 2 ^ 32)) (bit_and (slice_index links s) m)
+    → Reaching links m s (bit_and (bit_and m (2 ^ 32 - 1 - bit_and (slice_index links s) m)) (2 ^ 32 - 1 - 1 * 2 ^ s % 2 ^ 32))
+    (bit_and (slice_index links s) m)
 reach_first links m s mf l i =
     let todo = bit_and (slice_index links s) m in
     let one = 1 * 2 ^ s % 2 ^ 32 in
@@ -185,7 +187,8 @@ module _ (links : List ℕ) (m s rest todo : ℕ) (rf : rest < 2 ^ 32) (tf : tod
     ];
     shut = λ i k h n t l r. elim (ℕ_discrete i j) [
       | yes e ↦ (out_rest k r).1 (into_next k (subst (λ x. Linked links x k) e l) (out_rest k r).0)
-      | no e ↦ g.shut i k h (λ a. elim (ℕ_discrete (bit_at next i) 1) [ yes b ↦ t (in_todo i (inr b)) | no b ↦ n (in_rest i a b) ]) (λ a. t (in_todo i (inl (a, e)))) l (out_rest k r).0
+      | no e ↦ g.shut i k h (λ a. elim (ℕ_discrete (bit_at next i) 1) [ yes b ↦ t (in_todo i (inr b)) | no b ↦ n (in_rest i a b) ])
+          (λ a. t (in_todo i (inl (a, e)))) l (out_rest k r).0
     ];
   }
 
@@ -213,7 +216,8 @@ module _ (links : List ℕ) (m s rest todo : ℕ) (rf : rest < 2 ^ 32) (tf : tod
         | no n ↦ (
             let t = lowest next (omega (arith, n)) next_small in
             elim (ℕ_discrete rest' rest) [
-              | yes e ↦ absurd ((out_rest (count_trailing_zeros 32 next) (subst (λ x. In x (count_trailing_zeros 32 next)) (sym e) (out_next (count_trailing_zeros 32 next) t.1).1)).1 t.1)
+              | yes e ↦ absurd ((out_rest (count_trailing_zeros 32 next)
+                  (subst (λ x. In x (count_trailing_zeros 32 next)) (sym e) (out_next (count_trailing_zeros 32 next) t.1).1)).1 t.1)
               | no q ↦ omega (arith, a, small, q)
             ])
       ]
@@ -225,6 +229,7 @@ module _ (links : List ℕ) (m s rest todo : ℕ) (rf : rest < 2 ^ 32) (tf : tod
   reach_more = step links m s rest todo rf tf more g
 
   pub reach_falls : 2 ^ 32 * bit_and rest (2 ^ 32 - 1 - bit_and (slice_index links (count_trailing_zeros 32 todo)) rest)
-      + bit_or (bit_and todo (2 ^ 32 - 1 - 1 * 2 ^ count_trailing_zeros 32 todo % 2 ^ 32)) (bit_and (slice_index links (count_trailing_zeros 32 todo)) rest) < 2 ^ 32 * rest + todo
+      + bit_or (bit_and todo (2 ^ 32 - 1 - 1 * 2 ^ count_trailing_zeros 32 todo % 2 ^ 32)) (bit_and (slice_index links (count_trailing_zeros 32 todo)) rest)
+      < 2 ^ 32 * rest + todo
   unfolding j next one kept todo' rest'
   reach_falls = falls links m s rest todo rf tf more g

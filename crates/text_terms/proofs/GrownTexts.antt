@@ -13,7 +13,8 @@ module _ {L S : Type 0} (T : Spelled L) (last : L) (c : Course L S) where
   pub leads_none : LeadsTo T last c c.start []
   leads_none = record { lines = []; front = begins_none (by_course T last c) []; state = refl }
 
-  module _ (short : (l : L) → T.IsLine l → length (T.spelling l) ≤ 1024) (s : S) (text new : List ℕ) (h : LeadsTo T last c s text) (l : L) (good : c.Claim s l) (fields : T.IsLine l) (put : new ≡ text ++ line_text T l) where
+  module _ (short : (l : L) → T.IsLine l → length (T.spelling l) ≤ 1024) (s : S) (text new : List ℕ) (h : LeadsTo T last c s text) (l : L) (good : c.Claim s l)
+      (fields : T.IsLine l) (put : new ≡ text ++ line_text T l) where
     -- one more good line
     front_more : BeginsWith (by_course T last c) new (h.lines ++ l ∷ []) []
     front_more = record {

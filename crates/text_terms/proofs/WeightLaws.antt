@@ -18,7 +18,8 @@ word_step (Step.Plus u) = (omega arith, (omega arith, (omega arith, (omega arith
 word_step (Step.Minus u) = (omega arith, (omega arith, (omega arith, (omega arith, (omega arith, tt)))))
 
 pub step_form : (d : ℕ) → IsForm (step d)
-step_form d = one_form (IsStepIn d) (is_step_in d) step_word step_value 4 (record { passes = passes; ranges = ranges; guesses = λ s a. guesses s; word = λ s a. word_step s; few = λ s a. few s })
+step_form d = one_form (IsStepIn d) (is_step_in d) step_word step_value 4
+    (record { passes = passes; ranges = ranges; guesses = λ s a. guesses s; word = λ s a. word_step s; few = λ s a. few s })
   where
     passes : (s : Step) → IsStepIn d s → is_step_in d s ≡ true
     passes Step.Up a = refl

@@ -43,4 +43,5 @@ step_share d = shaped (λ p. record { weight = p.0; step = p.1 }) (λ s. (s.weig
 
 -- weights of at most four places on each side and of four steps
 abbrev pub why : ℕ → Form Refutation
-why d = shaped (λ p. record { low = p.0; high = p.1.0; steps = p.1.1 }) (λ r. (r.low, (r.high, r.steps))) (counted 4 share ⨾ counted 4 share ⨾ counted 4 (step_share d))
+why d = shaped (λ p. record { low = p.0; high = p.1.0; steps = p.1.1 }) (λ r. (r.low, (r.high, r.steps)))
+    (counted 4 share ⨾ counted 4 share ⨾ counted 4 (step_share d))

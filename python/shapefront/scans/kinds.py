@@ -36,6 +36,7 @@ META = Kind("MetaImage", (".mha", ".mhd"))
 NUMPY = Kind("numpy", (".npy",))
 ARCHIVE = Kind("npz", (".npz",), has_paths=True)
 KINDS = (NIFTI, DICOM, HDF5, NRRD, META, NUMPY, ARCHIVE)
+_WITH_PATHS = tuple(suffix for kind in KINDS if kind.has_paths for suffix in kind.suffixes)
 
 
 def kind_of(path: Path) -> Kind | None:
@@ -46,7 +47,8 @@ def kind_of(path: Path) -> Kind | None:
 
 def parted(path: Path) -> tuple[Path, str]:
     """The file in which an array lies, and its path there, which is empty where the path names the file: `scan.h5/a/b` is `a/b` in `scan.h5`."""
-    for k in range(len(path.parts), 0, -1):
+    told = str(path).lower()
+    for k in range(len(path.parts), 0, -1) if any(suffix in told for suffix in _WITH_PATHS) else ():
         file = Path(*path.parts[:k])
         if (kind := kind_of(file)) and kind.has_paths and not file.is_dir():
             return file, "/".join(path.parts[k:])

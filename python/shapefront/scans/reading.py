@@ -52,7 +52,6 @@ def _told(own: Spacing | None, given: Spacing | None) -> list[str]:
     spacing = given or own
     if spacing is None:
         return []
-    notes = [f"its voxels are {spacing}, {'as you say' if given else 'as the file says'}"]
     if spacing.unit is None:
-        notes.append("nothing is told in a unit: give --voxel-size with the unit")
-    return notes
+        return [f"its voxels are {spacing}", f"nothing is told in a unit: give the sizes with one, as in `{spacing.in_mm}`"]
+    return [f"its voxels are {spacing}, {'as you say' if given else 'as the file says'}"]

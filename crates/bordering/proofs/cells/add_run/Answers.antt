@@ -7,7 +7,8 @@ use Rattle.bordering.proofs.Sizes.{room_after}
 use Rattle.bordering.proofs.cells.add_run.Goals as goal
 
 pub add_shares-requires-2-clause-room : goal.add_shares-requires-2-clause-room
-add_shares-requires-2-clause-room c = room_after (flats c.args.points.now) (run_told c.new-along.result.run) c.args.run.first c.args.run.last c.args.cells.now c.add_shares.new.cells c.add_shares.ensures.passed c.requires.room
+add_shares-requires-2-clause-room c = room_after (flats c.args.points.now) (run_told c.new-along.result.run) c.args.run.first c.args.run.last c.args.cells.now
+    c.add_shares.new.cells c.add_shares.ensures.passed c.requires.room
 
 pub returns : goal.returns
 returns c = λ runs h.

@@ -1,5 +1,5 @@
 use Rattle.std.proofs.Common.{ap, ◌∙◌, ◌≡◌, length, get_or, arith, subst, min}
-use Rattle.border_terms.specs.Lengths.{share}
+use Rattle.measure_terms.specs.Lengths.{share}
 use Rattle.bordering.specs.Told.{flats, run_told}
 use Rattle.bordering.specs.Cells.{cell_with, no_cell, ArePassed}
 use Rattle.bordering.proofs.Passing.{passed_more, passed_cut}

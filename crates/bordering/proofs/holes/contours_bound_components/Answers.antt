@@ -1,4 +1,4 @@
-use Rattle.jordan_terms.proofs.Theorem.{jordan_in_the_plane, jordan_in_the_frame, holes_in_the_plane, one_more_than_holes}
+use Rattle.measure_terms.proofs.Theorem.{jordan_in_the_plane, jordan_in_the_frame, holes_in_the_plane, one_more_than_holes}
 use Rattle.bordering.proofs.holes.contours_bound_components.Goals as goal
 
 pub returns-clause-plane : goal.returns-clause-plane

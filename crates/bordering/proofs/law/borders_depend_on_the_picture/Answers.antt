@@ -1,4 +1,4 @@
-use Rattle.border_terms.proofs.BordersOnce.{facts_once, borders_once, starts_once}
+use Rattle.measure_terms.proofs.BordersOnce.{facts_once, borders_once, starts_once}
 use Rattle.bordering.proofs.law.borders_depend_on_the_picture.Goals as goal
 
 pub returns-clause-facts : goal.returns-clause-facts

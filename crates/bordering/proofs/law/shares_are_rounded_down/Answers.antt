@@ -1,4 +1,4 @@
-use Rattle.border_terms.proofs.RootFound.{quotient_holds}
+use Rattle.measure_terms.proofs.QuotientFound.{quotient_holds}
 use Rattle.bordering.proofs.law.shares_are_rounded_down.Goals as goal
 
 pub returns-clause-share : goal.returns-clause-share

@@ -2,7 +2,7 @@ use Rattle.std.proofs.Common.{ap, sym, ◌∙◌, ◌≡◌, take, [], ◌∷◌
 use Rattle.std.specs.Prelude.{replicate}
 use Rattle.std.proofs.lemmas.List.{length-take-le, take_more, map-append, with_items_is}
 use Rattle.shape_terms.specs.Points.{sides_of}
-use Rattle.border_terms.specs.Objects.{object_bounds}
+use Rattle.measure_terms.specs.Objects.{object_bounds}
 use Rattle.bordering.specs.Told.{flat, all_borders, border_told, all_bounds}
 use Rattle.bordering.specs.OneMore.{HasOneMore}
 use Rattle.bordering.proofs.Counting.{none_counted, border_counted}
@@ -20,7 +20,8 @@ add_border-requires c =
     let i = c.loop-b.b-index in
     let more = c.loop-b-test.true in
     let some : length (take i xs) ≡ i = length-take-le i xs (omega (arith, more)) in
-    room_for_one (sides_of (flat c.args.sides.lengths)) c.args.labels.now c.args.count (take i xs) (all_bounds c.as_mut_slice.result.now) (ap all_bounds c.as_mut_slice.ensures.value ∙ c.loop-b.invariant) (omega (arith, some, more))
+    room_for_one (sides_of (flat c.args.sides.lengths)) c.args.labels.now c.args.count (take i xs) (all_bounds c.as_mut_slice.result.now)
+    (ap all_bounds c.as_mut_slice.ensures.value ∙ c.loop-b.invariant) (omega (arith, some, more))
 
 pub loop-b-preserved : goal.loop-b-preserved
 loop-b-preserved c =
@@ -30,8 +31,10 @@ loop-b-preserved c =
     let i = c.loop-b.b-index in
     let bs = all_borders (take i xs) in
     let b = border_told c.b-item.result in
-    let next : all_borders (take (i + 1) xs) ≡ bs ++ b ∷ [] = ap all_borders (take_more xs i c.b-item.result c.loop-b-test.true) ∙ map-append border_told (take i xs) _ ∙ ap (λ x. bs ++ border_told x ∷ []) (sym c.b-item.is) in
+    let next : all_borders (take (i + 1) xs) ≡ bs ++ b ∷ [] = ap all_borders (take_more xs i c.b-item.result c.loop-b-test.true)
+    ∙ map-append border_told (take i xs) _ ∙ ap (λ x. bs ++ border_told x ∷ []) (sym c.b-item.is) in
     let items = with_items_is c.loop-b.all c.add_border.new.all (c.add_border.auto.all ∙ c.as_mut_slice.ensures.len) in
     let old = ap all_bounds c.as_mut_slice.ensures.value ∙ c.loop-b.invariant in
-    let put = subst (λ k. HasOneMore k b (all_bounds c.as_mut_slice.result.now) (all_bounds c.add_border.new.all)) c.label_at-label.ensures c.add_border.ensures in
+    let put = subst (λ k. HasOneMore k b (all_bounds c.as_mut_slice.result.now) (all_bounds c.add_border.new.all)) c.label_at-label.ensures c.add_border.ensures
+    in
     ap all_bounds items ∙ border_counted sides labels c.args.count bs b _ _ old put ∙ ap (object_bounds sides labels c.args.count) (sym next)

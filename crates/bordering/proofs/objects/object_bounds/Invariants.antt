@@ -1,6 +1,6 @@
 use Rattle.std.proofs.Common.{◌≡◌, take}
 use Rattle.shape_terms.specs.Points.{sides_of}
-use Rattle.border_terms.specs.Objects.{object_bounds}
+use Rattle.measure_terms.specs.Objects.{object_bounds}
 use Rattle.bordering.specs.Told.{flat, all_borders, all_bounds}
 use Rattle.bordering.proofs.objects.object_bounds.Given as goal
 

@@ -1,6 +1,6 @@
 use Rattle.std.proofs.Common.{◌*◌, ◌^◌, ◌<◌, sym, ap, ◌∙◌, arith}
-use Rattle.border_terms.specs.Quotients.{root_quotient}
-use Rattle.border_terms.proofs.RootFound.{quotient_is, quotient_from_whole, none_over_zero}
+use Rattle.measure_terms.specs.Quotients.{root_quotient}
+use Rattle.measure_terms.proofs.QuotientFound.{quotient_is, quotient_from_whole, none_over_zero}
 use Rattle.bordering.proofs.quotient.quotient.Goals as goal
 
 pub returns-then-norm-eq0 : goal.returns-then-norm-eq0

@@ -1,5 +1,5 @@
 use Rattle.std.proofs.Common.{◌<◌, length, ◌∙◌, arith}
-use Rattle.border_terms.specs.Lengths.{step}
+use Rattle.measure_terms.specs.Lengths.{step}
 use Rattle.bordering.proofs.Reading.{point_read, next_read}
 use Rattle.bordering.proofs.steps.step_at.Goals as goal
 

@@ -8,7 +8,8 @@ use Rattle.draw_report.specs.Contours.{with_line}
 use Rattle.draw_report.specs.Seen.{all_paths}
 use Rattle.draw_report.proofs.analysis.take_contour.Goals as goal
 
-other_line : (l : Line P2) (cs : List (List Point)) → ((p : P2) (side n m : ℕ) → l ≡ Contour p side n m → ⊥) → ((p : P2) → l ≡ At p → ⊥) → cs ≡ with_line cs (flat_line l)
+other_line : (l : Line P2) (cs : List (List Point)) → ((p : P2) (side n m : ℕ) → l ≡ Contour p side n m → ⊥) → ((p : P2) → l ≡ At p → ⊥)
+    → cs ≡ with_line cs (flat_line l)
 other_line (Shape number sides rule) cs c a = refl
 other_line (Parts n o b) cs c a = refl
 other_line (Near p q s) cs c a = refl

@@ -8,7 +8,8 @@ use Rattle.draw_report.proofs.CircleLaws.{balls_more}
 use Rattle.draw_report.proofs.balls.balls_in.Goals as goal
 
 pub loop-mark-preserved : goal.loop-mark-preserved
-loop-mark-preserved c = balls_more (sides_of (flat c.args.sides.lengths)) c.args.marks.now c.loop-mark.mark-index _ _ _ c.loop-mark-test.true c.loop-mark.invariant c.in_ok-take_ball.ensures
+loop-mark-preserved c = balls_more (sides_of (flat c.args.sides.lengths)) c.args.marks.now c.loop-mark.mark-index _ _ _ c.loop-mark-test.true
+    c.loop-mark.invariant c.in_ok-take_ball.ensures
 
 pub returns : goal.returns
 returns c =

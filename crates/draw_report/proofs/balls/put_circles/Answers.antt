@@ -8,7 +8,8 @@ use Rattle.draw_report.proofs.CircleLaws.{texts_more}
 use Rattle.draw_report.proofs.balls.put_circles.Goals as goal
 
 pub loop-b-preserved : goal.loop-b-preserved
-loop-b-preserved c = one_more _ _ _ _ _ _ c.loop-b.invariant c.in_ok-put_circle.ensures (texts_more circle_text c.args.balls.now c.loop-b.b-index _ c.loop-b-test.true)
+loop-b-preserved c = one_more _ _ _ _ _ _ c.loop-b.invariant c.in_ok-put_circle.ensures
+    (texts_more circle_text c.args.balls.now c.loop-b.b-index _ c.loop-b-test.true)
 
 pub returns : goal.returns
 returns c =

@@ -5,4 +5,5 @@ use Rattle.draw_report.proofs.balls.root.Goals as goal
 pub returns : goal.returns
 returns c =
     let w = c.isqrt-whole.result in
-    root_is c.args.square ((w + 1) / 2) (root_from_whole c.args.square w ((w + 1) / 2) c.isqrt-whole.ensures.square_le c.isqrt-whole.ensures.next_square_gt refl)
+    root_is c.args.square ((w + 1) / 2)
+    (root_from_whole c.args.square w ((w + 1) / 2) c.isqrt-whole.ensures.square_le c.isqrt-whole.ensures.next_square_gt refl)

@@ -8,4 +8,5 @@ returns c =
     let some = c.if-begun-eq0.false in
     let few = c.if-begun-paths.false in
     let b = c.args.begun in
-    ap flats c.as_slice.ensures.value ∙ path_found c.args.paths.now b (b - 1) c.index-paths-begun.result (omega (arith, some)) (omega (arith, few)) c.index-paths-begun.is
+    ap flats c.as_slice.ensures.value ∙ path_found c.args.paths.now b (b - 1) c.index-paths-begun.result (omega (arith, some)) (omega (arith, few))
+    c.index-paths-begun.is

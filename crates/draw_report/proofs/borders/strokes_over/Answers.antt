@@ -15,7 +15,8 @@ loop-mark-preserved c =
     let begun = c.in_ok-at.ensures.begun in
     let low = c.loop-mark.invariant.1 in (
       c.in_ok-at.ensures.strokes (all_marks (drop (i + 1) marks))
-          ∙ ap (λ ms. all_strokes c.loop-mark.strokes.items ++ strokes_from paths c.loop-mark.at.begun c.loop-mark.at.even ms) (sym (marks_more marks i _ c.loop-mark-test.true))
+          ∙ ap (λ ms. all_strokes c.loop-mark.strokes.items ++ strokes_from paths c.loop-mark.at.begun c.loop-mark.at.even ms)
+          (sym (marks_more marks i _ c.loop-mark-test.true))
           ∙ c.loop-mark.invariant.0,
       omega (arith, begun, low),
     )
@@ -26,4 +27,5 @@ returns c =
     let marks = c.args.marks.now in
     let now = all_strokes c.loop-mark.strokes.items in
     let none = drop_of_length-le marks c.loop-mark-test.false in
-    sym (append-nil now) ∙ ap (λ ms. now ++ strokes_from paths c.loop-mark.at.begun c.loop-mark.at.even (all_marks ms)) (sym none) ∙ c.loop-mark.invariant.0 ∙ all_strokes_over paths (all_marks marks)
+    sym (append-nil now) ∙ ap (λ ms. now ++ strokes_from paths c.loop-mark.at.begun c.loop-mark.at.even (all_marks ms)) (sym none) ∙ c.loop-mark.invariant.0
+    ∙ all_strokes_over paths (all_marks marks)

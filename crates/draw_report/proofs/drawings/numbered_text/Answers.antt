@@ -19,6 +19,7 @@ returns c = λ lines kept told.
       rows = map (measures_told (given_sides lines)) table.rows.items;
       table = table_made c.args.seen.now (said lines) table told c.in_ok-table.ensures;
       text = c.into_text.ensures ∙ c.in_ok-put_numbered.ensures lines kept
-          ∙ ap (λ t. t ++ (report_layers lines ++ (number_layer sides (map deepest_point (map (measures_told sides) c.as_slice.result.now)) ++ codes "</svg>\n"))) c.new-svg.ensures
+          ∙ ap (λ t. t ++ (report_layers lines
+          ++ (number_layer sides (map deepest_point (map (measures_told sides) c.as_slice.result.now)) ++ codes "</svg>\n"))) c.new-svg.ensures
           ∙ (λ i. report_layers lines ++ (number_layer (side i) (map deepest_point (map (measures_told (side i)) (slice i))) ++ codes "</svg>\n"));
     }

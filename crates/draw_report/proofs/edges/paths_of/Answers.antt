@@ -5,7 +5,8 @@ use Rattle.draw_report.proofs.CornerLaws.{paths_more}
 use Rattle.draw_report.proofs.edges.paths_of.Goals as goal
 
 pub loop-k-preserved : goal.loop-k-preserved
-loop-k-preserved c = paths_more c.args.cycles.now c.loop-k.k c.cycle.result.now c.in_ok-path.path _ _ c.loop-k.invariant c.cycle.ensures (c.in_ok-path.ensures ∙ c.path.ensures) c.in_ok-push.ensures.items
+loop-k-preserved c = paths_more c.args.cycles.now c.loop-k.k c.cycle.result.now c.in_ok-path.path _ _ c.loop-k.invariant c.cycle.ensures
+    (c.in_ok-path.ensures ∙ c.path.ensures) c.in_ok-push.ensures.items
 
 pub returns : goal.returns
 returns c =

@@ -13,8 +13,10 @@ returns c =
     let paths = all_paths c.in_ok-paths.paths.items in
     let arcs = borders (all_marks c.args.marks.now) in
     let p : all_paths c.deref.result.now ≡ paths = ap all_paths c.deref.ensures.value in
-    let s : all_strokes c.deref-2.result.now ≡ strokes_over paths arcs = ap all_strokes c.deref-2.ensures.value ∙ c.in_ok-strokes.ensures ∙ ap (λ q. strokes_over q arcs) p in
-    let laid : c.put_contours.new.svg ≡ c.put.new.self ++ contour_layer (strokes_over paths arcs) = c.in_ok-put_contours.ensures ∙ ap (λ t. c.put.new.self ++ contour_layer t) s in
+    let s : all_strokes c.deref-2.result.now ≡ strokes_over paths arcs = ap all_strokes c.deref-2.ensures.value ∙ c.in_ok-strokes.ensures
+    ∙ ap (λ q. strokes_over q arcs) p in
+    let laid : c.put_contours.new.svg ≡ c.put.new.self ++ contour_layer (strokes_over paths arcs) = c.in_ok-put_contours.ensures
+    ∙ ap (λ t. c.put.new.self ++ contour_layer t) s in
     on_ok c.put-2.result (λ (q : c.put-2.new.self ≡ c.put_contours.new.svg ++ codes "</g>\n"). record {
       paths = paths;
       are = c.in_ok-paths.ensures;

@@ -21,4 +21,5 @@ loop-i-preserved c =
     let same = sym (point_at ∙ ap deepest_point told_at) in
     let text = numbered (map deepest_point (map told objects)) in
     let put : c.put_at.new.svg ≡ c.loop-i.svg ++ text i = subst (λ p. c.put_at.new.svg ≡ c.loop-i.svg ++ number_at (i + 1) p) same c.in_ok-put_at.ensures in
-    one_more c.args.svg.now c.loop-i.svg c.put_at.new.svg (flat_map text (range_with_len 0 i)) (flat_map text (range_with_len 0 (i + 1))) (text i) c.loop-i.invariant put (more_numbers text i)
+    one_more c.args.svg.now c.loop-i.svg c.put_at.new.svg (flat_map text (range_with_len 0 i)) (flat_map text (range_with_len 0 (i + 1))) (text i)
+    c.loop-i.invariant put (more_numbers text i)

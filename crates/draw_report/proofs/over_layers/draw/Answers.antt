@@ -24,6 +24,7 @@ returns c = λ lines h.
       are = put.are;
       drawn =
           c.into_text.ensures ∙ four _ _ _ _ _ _ _ _ _ c.in_ok-put_head.ensures c.in_ok-put_object.ensures put.put c.in_ok-put.ensures
-          ∙ ap (λ t. t ++ (head (nat_abs a.sides.lengths.x) (nat_abs a.sides.lengths.y) ++ (object_layer (all_pixels c.deref.result.now) ++ (marks ++ codes "</svg>\n")))) c.new-svg.ensures
+          ∙ ap (λ t. t ++ (head (nat_abs a.sides.lengths.x) (nat_abs a.sides.lengths.y)
+          ++ (object_layer (all_pixels c.deref.result.now) ++ (marks ++ codes "</svg>\n")))) c.new-svg.ensures
           ∙ (λ i. head (slice_index (s i) 0) (slice_index (s i) 1) ++ (object_layer (x i) ++ (marks ++ codes "</svg>\n")));
     }

@@ -22,7 +22,8 @@ returns-in-Flat-clause-answer g c =
     let old = (g.D.Desk.state c.args.desk.now).left Report in
     let new = ahead_of c.read_opening.new.reader.ahead ((g.D.Desk.state c.read_opening.new.desk).left Report) in
     let ahead = none_ahead c.in-Ok.reader.ahead old c.in-Ok.ensures.ahead in
-    let opened : IfTold (ahead_of c.in-Ok.reader.ahead old) (λ bytes. TakesHeading flat bytes new (flat_line c.in-Flat.heading.line)) = rw c.in-Flat.is at c.in_ok-heading.ensures.answer in
+    let opened : IfTold (ahead_of c.in-Ok.reader.ahead old) (λ bytes. TakesHeading flat bytes new (flat_line c.in-Flat.heading.line)) =
+    rw c.in-Flat.is at c.in_ok-heading.ensures.answer in
     let taken = subst (λ t. IfTold t (λ bytes. TakesHeading flat bytes new (flat_line c.in-Flat.heading.line))) ahead opened in
     read_later old _ _ _ c.read_behind.result c.in_ok-heading.ensures.reads.only.later (c.read_behind.ensures.answer old taken)
 

@@ -15,5 +15,6 @@ loop-at-preserved c =
     let within = subst (λ ps. n ≤ length ps) behind c.run_len-count.ensures.within in
     let r = one_run points at n _ c.loop-at-test.true (subst (λ ps. BeginsWithRun (flats ps) n) behind c.run_len-count.ensures.run) in (
       omega (arith, within, length-drop at points),
-      ap (λ t. t ++ runs_text (flats (drop (at + n) points))) c.in_ok-run.ensures ∙ append_assoc c.loop-at.svg _ _ ∙ ap (λ t. c.loop-at.svg ++ t) (sym r) ∙ c.loop-at.invariant.1,
+      ap (λ t. t ++ runs_text (flats (drop (at + n) points))) c.in_ok-run.ensures ∙ append_assoc c.loop-at.svg _ _ ∙ ap (λ t. c.loop-at.svg ++ t) (sym r)
+          ∙ c.loop-at.invariant.1,
     )

@@ -22,4 +22,5 @@ pub returns-clause-run : goal.returns-clause-run
 returns-clause-run c =
     let points = c.args.points.now in
     let n = length-map points flat in
-    first_run (flats points) (length points) c.requires (omega (arith, n)) (λ k l. c.loop-i.invariant k (omega (arith, c.loop-i-test.false))) (λ k e l. absurd (omega (arith, n)))
+    first_run (flats points) (length points) c.requires (omega (arith, n)) (λ k l. c.loop-i.invariant k (omega (arith, c.loop-i-test.false)))
+    (λ k e l. absurd (omega (arith, n)))

@@ -46,4 +46,5 @@ returns-else-inside c = λ sides lines h.
     subst (λ (x : Line P2). HasDeleted sides (lines ++ flat_line x ∷ []) X) (sym c.in-Del.is) (deletes_outside sides lines p X outside h)
 
 pub returns-in_default : goal.returns-in_default
-returns-in_default c = λ sides lines h. keeps_deleted sides lines (flat_line c.args.line.now) c.args.deleted.now (deletes_none c.args.line.now c.in_default.not-Del) h
+returns-in_default c = λ sides lines h. keeps_deleted sides lines (flat_line c.args.line.now) c.args.deleted.now
+    (deletes_none c.args.line.now c.in_default.not-Del) h

@@ -18,4 +18,5 @@ returns-clause-checked g c =
     let X = c.args.grid.now in
     let old = g.D.Desk.state c.args.desk.now in
     let new = g.D.Desk.state c.check_by.new.desk in
-    subst (λ d. HasChecked (by_course (spelled d) Line.End (course X)) (old.left Report) old new c.check_by.result) (sym c.is_picture.ensures.picture.axes) (c.check_by.ensures.checked X c.in_ok-judge.ensures.stands)
+    subst (λ d. HasChecked (by_course (spelled d) Line.End (course X)) (old.left Report) old new c.check_by.result) (sym c.is_picture.ensures.picture.axes)
+    (c.check_by.ensures.checked X c.in_ok-judge.ensures.stands)

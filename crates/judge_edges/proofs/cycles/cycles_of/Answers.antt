@@ -7,7 +7,8 @@ pub cycle_from-requires : goal.cycle_from-requires
 cycle_from-requires c =
     let n = c.len-k-end.ensures in
     let t = c.loop-k-test.true in
-    subst (IsCrack c.args.grid.now) (start_is c.args.contours.now c.loop-k.k _ _ c.contour.ensures c.start.ensures) (start_crack c.args.grid.now c.args.contours.now c.requires c.loop-k.k (omega arith))
+    subst (IsCrack c.args.grid.now) (start_is c.args.contours.now c.loop-k.k _ _ c.contour.ensures c.start.ensures)
+    (start_crack c.args.grid.now c.args.contours.now c.requires c.loop-k.k (omega arith))
 
 pub loop-k-preserved : goal.loop-k-preserved
 loop-k-preserved c =
@@ -16,7 +17,8 @@ loop-k-preserved c =
     record {
       count = ap length put.items ∙ (let a = length-append c.loop-k.list.items (c.in_ok-cycle.cycle ∷ []) in let b = v.count in omega arith);
       each = from_more c.args.grid.now c.args.contours.now c.loop-k.list.items c.push.new.self.items c.loop-k.k c.in_ok-cycle.cycle v.count put.items v.each
-          (is_from c.args.grid.now c.args.contours.now c.loop-k.k _ _ c.in_ok-cycle.cycle c.contour.ensures c.start.ensures c.in_ok-cycle.ensures.start c.in_ok-cycle.ensures.path);
+          (is_from c.args.grid.now c.args.contours.now c.loop-k.k _ _ c.in_ok-cycle.cycle c.contour.ensures c.start.ensures c.in_ok-cycle.ensures.start
+          c.in_ok-cycle.ensures.path);
     }
 
 pub returns-clause-cycles : goal.returns-clause-cycles
@@ -26,4 +28,5 @@ returns-clause-cycles c =
     let e = c.loop-k-test.false in
     let a = c.loop-k.auto.k-end in
     let q : c.loop-k.k ≡ length c.args.contours.now = omega arith in
-    are_cycles c.args.grid.now c.args.contours.now c.requires c.loop-k.list.items (v.count ∙ q) (subst (AreFrom c.args.grid.now c.args.contours.now c.loop-k.list.items) q v.each)
+    are_cycles c.args.grid.now c.args.contours.now c.requires c.loop-k.list.items (v.count ∙ q)
+    (subst (AreFrom c.args.grid.now c.args.contours.now c.loop-k.list.items) q v.each)

@@ -2,7 +2,7 @@ use Rattle.std.proofs.Common.{◌≡◌, false, ap, subst, sym, ◌∙◌}
 use Rattle.shape_terms.specs.Pictures.{at}
 use Rattle.shape_terms.proofs.Boxes.{in_box_length}
 use Rattle.std.proofs.lemmas.Bool.{and_parts}
-use Rattle.judge_field.specs.Scanned.{IsLeastSquare}
+use Rattle.judge_field.specs.FieldState.{IsLeastSquare}
 use Rattle.judge_field.proofs.LeastTests.{least_by}
 use Rattle.judge_field.proofs.least.is_least.Goals as goal
 

@@ -10,7 +10,8 @@ loop-square-preserved c =
     let v = c.told_diameter.result in
     record {
       done = below_more _ _ (λ k h. let ne : k ≢ i = omega arith in get_or-set_other s i k v 0 ne ∙ c.loop-square.invariant.done k h)
-          (let lt : i < length s = omega arith in get_or-set_same s i v 0 lt ∙ c.told_diameter.ensures ∙ ap told_diameter (c.loop-square.invariant.left i (omega arith)));
+          (let lt : i < length s = omega arith in get_or-set_same s i v 0 lt ∙ c.told_diameter.ensures
+          ∙ ap told_diameter (c.loop-square.invariant.left i (omega arith)));
       left = λ k h. let ne : k ≢ i = omega arith in get_or-set_other s i k v 0 ne ∙ c.loop-square.invariant.left k (omega arith);
     }
 
@@ -19,4 +20,5 @@ returns c =
     let s = c.loop-square.squares in
     let old = c.args.squares.now in
     let kept : length s ≡ length old = c.loop-square.auto.squares in
-    ext_get_or 0 _ _ (kept ∙ sym (length-map old told_diameter)) (λ k l. c.loop-square.invariant.done k (omega arith) ∙ sym (get_or-map told_diameter old k 0 0 (omega (arith, l, kept))))
+    ext_get_or 0 _ _ (kept ∙ sym (length-map old told_diameter))
+    (λ k l. c.loop-square.invariant.done k (omega arith) ∙ sym (get_or-map told_diameter old k 0 0 (omega (arith, l, kept))))

@@ -1,7 +1,6 @@
-use Rattle.std.proofs.Common.{◌≡◌, ◌+◌, ◌<◌, List, [], ◌∷◌, ◌++◌, length, map, get_or, sym, ap, ◌∙◌, subst, arith}
+use Rattle.std.proofs.Common.{◌≡◌, ◌+◌, ◌<◌, [], ◌∷◌, length, map, get_or, sym, ap, ◌∙◌, subst, arith}
 use Rattle.std.proofs.lemmas.List.{length-map, length-append, map-append, get_or-map}
-use Rattle.measure_terms.specs.Ellipse as Terms
-use Rattle.moments.specs.Told.{moments_told, all_told, ellipse_told}
+use Rattle.measuring.specs.MomentsTold.{moments_told, all_told, ellipse_told}
 use Rattle.measure_report.specs.MomentColumns.{no_moments, IsEllipseOf, AreEllipses}
 use Rattle.measure_report.proofs.EllipsesMore.{ellipse_more}
 use Rattle.measure_report.proofs.moment_columns.ellipses.Goals as goal
@@ -17,7 +16,8 @@ loop-i-preserved c =
     let many = c.loop-i.invariant.many in
     let below : i < length all = omega arith in
     let own : moments_told m ≡ get_or (all_told all) i no_moments = ap moments_told c.index-all-i.is ∙ sym (get_or-map moments_told all i m no_moments below) in
-    let are = ellipse_more (all_told all) (map ellipse_told old) i (ellipse_told r) (length-map old ellipse_told ∙ many) c.loop-i.invariant.are (subst (λ n. IsEllipseOf n (ellipse_told r)) own c.ellipse_of.ensures) in
+    let are = ellipse_more (all_told all) (map ellipse_told old) i (ellipse_told r) (length-map old ellipse_told ∙ many) c.loop-i.invariant.are
+    (subst (λ n. IsEllipseOf n (ellipse_told r)) own c.ellipse_of.ensures) in
     record {
       many = omega (arith, ap length pushed, length-append old (r ∷ []), many);
       are = subst (AreEllipses (i + 1) (all_told all)) (sym (ap (map ellipse_told) pushed ∙ map-append ellipse_told old (r ∷ []))) are;

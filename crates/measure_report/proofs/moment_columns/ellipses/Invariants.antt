@@ -1,5 +1,5 @@
 use Rattle.std.proofs.Common.{◌≡◌, length, map}
-use Rattle.moments.specs.Told.{all_told, ellipse_told}
+use Rattle.measuring.specs.MomentsTold.{all_told, ellipse_told}
 use Rattle.measure_report.specs.MomentColumns.{AreEllipses}
 use Rattle.measure_report.proofs.moment_columns.ellipses.Given as goal
 

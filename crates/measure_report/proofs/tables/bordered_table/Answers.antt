@@ -1,4 +1,4 @@
-use Rattle.std.proofs.Common.{◌≡◌, refl, ap, sym, ◌∙◌, [], ◌∷◌, map}
+use Rattle.std.proofs.Common.{◌≡◌, true, refl, ◌∙◌, map}
 use Rattle.std.proofs.lemmas.Result.{IfOk-weaker}
 use Rattle.shape_terms.specs.Points.{sides_of}
 use Rattle.measure_terms.specs.Texts.{table_text}
@@ -24,11 +24,13 @@ returns c = λ lines tells told border.
     let side : sides ≡ seen.object.sides = c.sides.ensures in
     let slice = c.as_slice.ensures.value in
     let ms = map (measures_told seen.object.sides) table.rows.items in
-    IfOk-weaker c.table_text.result (λ t. t.items ≡ table_text 2 (flat_columns more.groups more.borders.told more.areas.items all f) (map (measures_told sides) c.as_slice.result.now))
+    IfOk-weaker c.table_text.result
+    (λ t. t.items ≡ table_text true 2 (flat_columns more.groups more.borders.told more.areas.items all f) (map (measures_told sides) c.as_slice.result.now))
     (λ t. IsTableText g 2 lines t.items)
-    (λ t h. flat_made g lines seen.object seen.squares seen.left table.labels table.count ms more.borders.told (all_borders c.args.borders.now) more.areas.items all f t.items
+    (λ t h. flat_made g lines seen.object seen.squares seen.left table.labels table.count ms more.borders.told (all_borders c.args.borders.now) more.areas.items
+    all f t.items
     (are_said lines seen seen.object seen.squares seen.left told refl refl refl)
     (record { named = c.requires.labels; count_is = c.requires.count; rows_are = c.requires.rows })
     (made.told ∙ tells) border (made.areas ∙ areas_told seen.object.sides table.rows.items) made.bounds made.further
-    (h ∙ (λ i. table_text 2 (flat_columns (groups i) more.borders.told more.areas.items all f) (map (measures_told (side i)) (slice i)))))
+    (h ∙ (λ i. table_text true 2 (flat_columns (groups i) more.borders.told more.areas.items all f) (map (measures_told (side i)) (slice i)))))
     c.table_text.ensures

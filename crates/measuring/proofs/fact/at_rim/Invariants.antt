@@ -6,4 +6,6 @@ use Rattle.measure_terms.specs.Facts.{at_end}
 use Rattle.measuring.proofs.fact.at_rim.Given as goal
 
 abbrev pub invariant-loop-k : goal.invariant-loop-k
-invariant-loop-k g l = l.rim ≡ list_any (λ k. at_end (slice_index (sides_of (g.P.Point.coords l.sides.lengths)) k) (nat_abs (coordinate (g.P.Point.coords l.p) k))) (range_with_len 0 l.k)
+invariant-loop-k g l =
+    l.rim ≡ list_any (λ k. at_end (slice_index (sides_of (g.P.Point.coords l.sides.lengths)) k) (nat_abs (coordinate (g.P.Point.coords l.p) k)))
+    (range_with_len 0 l.k)

@@ -15,11 +15,13 @@ loop-k-preserved g c =
     let few = c.loop-k.invariant.few in
     elim c.if-not-has.branch [
       | then-not-has w ↦ record {
-        counted = w.count-is ∙ one_side_more X p q c.loop-k.k c.loop-k.count l c.side.ensures (sym c.has.ensures ∙ w.if-not-has.true) c.loop-k.invariant.counted;
+        counted = w.count-is ∙ one_side_more X p q c.loop-k.k c.loop-k.count l c.side.ensures (sym c.has.ensures ∙ w.if-not-has.true)
+            c.loop-k.invariant.counted;
         few = omega (arith, few, w.count-is);
       }
       | else-not-has w ↦ record {
-        counted = w.count-is ∙ no_side_more X p q c.loop-k.k c.loop-k.count l c.side.ensures (sym c.has.ensures ∙ w.if-not-has.false) c.loop-k.invariant.counted;
+        counted = w.count-is ∙ no_side_more X p q c.loop-k.k c.loop-k.count l c.side.ensures (sym c.has.ensures ∙ w.if-not-has.false)
+            c.loop-k.invariant.counted;
         few = omega (arith, few, w.count-is);
       }
     ]

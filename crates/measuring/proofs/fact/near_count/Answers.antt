@@ -15,11 +15,13 @@ loop-k-preserved g c =
     let few = c.loop-k.invariant.few in
     elim c.if-has.branch [
       | then-has w ↦ record {
-        counted = w.count-is ∙ one_neighbour_more X p q c.loop-k.k c.loop-k.count l c.near.ensures (sym c.has.ensures ∙ w.if-has.true) c.loop-k.invariant.counted;
+        counted = w.count-is ∙ one_neighbour_more X p q c.loop-k.k c.loop-k.count l c.near.ensures (sym c.has.ensures ∙ w.if-has.true)
+            c.loop-k.invariant.counted;
         few = omega (arith, few, w.count-is);
       }
       | else-has w ↦ record {
-        counted = w.count-is ∙ no_neighbour_more X p q c.loop-k.k c.loop-k.count l c.near.ensures (sym c.has.ensures ∙ w.if-has.false) c.loop-k.invariant.counted;
+        counted = w.count-is ∙ no_neighbour_more X p q c.loop-k.k c.loop-k.count l c.near.ensures (sym c.has.ensures ∙ w.if-has.false)
+            c.loop-k.invariant.counted;
         few = omega (arith, few, w.count-is);
       }
     ]

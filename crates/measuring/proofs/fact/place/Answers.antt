@@ -8,7 +8,8 @@ overflow_cast-result g c =
     let s = c.args.sides in
     let f : FitsSigned w32 c.coord.result = search rules in
     let axes = g.met.P.Point.axes s.lengths in
-    let h = place_small g.P.Point.MAX_SIDE (g.P.Point.coords s.lengths) (g.P.Point.coords c.args.p) c.args.k c.coord.result s.in_range g.met.P.Point.flat_side c.requires (omega arith) c.coord.ensures in
+    let h = place_small g.P.Point.MAX_SIDE (g.P.Point.coords s.lengths) (g.P.Point.coords c.args.p) c.args.k c.coord.result s.in_range g.met.P.Point.flat_side
+    c.requires (omega arith) c.coord.ensures in
     rw (to_z-of_z w32 c.coord.result f) (search (rules, h.0, h.1))
 
 pub returns-then-k-DIM-clause-small : goal.returns-then-k-DIM-clause-small
@@ -16,5 +17,6 @@ returns-then-k-DIM-clause-small g c =
     let s = c.args.sides in
     let f : FitsSigned w32 c.coord.result = search rules in
     let axes = g.met.P.Point.axes s.lengths in
-    let h = place_small g.P.Point.MAX_SIDE (g.P.Point.coords s.lengths) (g.P.Point.coords c.args.p) c.args.k c.coord.result s.in_range g.met.P.Point.flat_side c.requires (omega arith) c.coord.ensures in
+    let h = place_small g.P.Point.MAX_SIDE (g.P.Point.coords s.lengths) (g.P.Point.coords c.args.p) c.args.k c.coord.result s.in_range g.met.P.Point.flat_side
+    c.requires (omega arith) c.coord.ensures in
     rw (to_z-of_z w32 c.coord.result f) h.1

@@ -5,7 +5,8 @@ use Rattle.measuring.proofs.round.root.Goals as goal
 pub returns-clause-value : goal.returns-clause-value
 returns-clause-value c =
     let w = c.isqrt-whole.result in
-    root_is c.args.square ((w + 1) / 2) (root_from_whole c.args.square w ((w + 1) / 2) c.isqrt-whole.ensures.square_le c.isqrt-whole.ensures.next_square_gt refl)
+    root_is c.args.square ((w + 1) / 2)
+    (root_from_whole c.args.square w ((w + 1) / 2) c.isqrt-whole.ensures.square_le c.isqrt-whole.ensures.next_square_gt refl)
 
 pub returns-clause-nearest : goal.returns-clause-nearest
 returns-clause-nearest c =

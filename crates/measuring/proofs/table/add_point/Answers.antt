@@ -48,4 +48,5 @@ pub returns-else-part-ne0 : goal.returns-else-part-ne0
 returns-else-part-ne0 g c =
     let p = c.label-part.ensures in
     let left = c.args.left.now in
-    one_passed (measures_told left.sides) c.args.all.now c.args.object.now c.args.squares.now left c.args.labels.now c.args.i c.requires.so_far (omega (arith, p, c.if-part-ne0.false))
+    one_passed (measures_told left.sides) c.args.all.now c.args.object.now c.args.squares.now left c.args.labels.now c.args.i c.requires.so_far
+    (omega (arith, p, c.if-part-ne0.false))

@@ -16,7 +16,8 @@ add_points-requires-clause-enough g c =
 pub add_points-requires-clause-empty : goal.add_points-requires-clause-empty
 add_points-requires-clause-empty g c =
     let told = measures_told c.args.left.now.sides in
-    rows_whole told c.as_mut_slice.result.now c.greatest_label-count.result [] (ap (map told) c.as_mut_slice.ensures.value ∙ c.in_ok-all.ensures c.args.left.now.sides)
+    rows_whole told c.as_mut_slice.result.now c.greatest_label-count.result []
+    (ap (map told) c.as_mut_slice.ensures.value ∙ c.in_ok-all.ensures c.args.left.now.sides)
 
 pub returns : goal.returns
 returns g c =
@@ -33,5 +34,7 @@ returns g c =
     record {
       labels = c.in_ok-labels.ensures;
       count = c.greatest_label-count.ensures;
-      rows = ap (map (measures_told object.sides)) whole ∙ ap (λ (s : List ℕ). map (measures_told s) new) (sym c.requires.sides) ∙ c.add_points.ensures ∙ ap (λ n. rows n (facts object c.args.squares.now left labels)) (rows_count told old c.greatest_label-count.result [] (ap (map told) c.as_mut_slice.ensures.value ∙ c.in_ok-all.ensures left.sides));
+      rows = ap (map (measures_told object.sides)) whole ∙ ap (λ (s : List ℕ). map (measures_told s) new) (sym c.requires.sides) ∙ c.add_points.ensures
+          ∙ ap (λ n. rows n (facts object c.args.squares.now left labels))
+          (rows_count told old c.greatest_label-count.result [] (ap (map told) c.as_mut_slice.ensures.value ∙ c.in_ok-all.ensures left.sides));
     }

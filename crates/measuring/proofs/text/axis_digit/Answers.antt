@@ -17,7 +17,8 @@ loop-j-preserved g c =
     let axes = g.met.P.Point.axes c.args.sides.lengths in
     let m : k < length ns = omega (arith, length-map n nat_abs, axes, c.requires) in
     let side = ap nat_abs (to_z-of_z w32 c.side.result f ∙ c.side.ensures.value) ∙ sym (side_is n j) in
-    ap (λ s. coordinate (raster_point (drop (j + 1) ns) (c.loop-j.left / s)) (k - (j + 1))) side ∙ sym (digit_step ns j k c.loop-j.left c.loop-j-test.true m) ∙ c.loop-j.invariant
+    ap (λ s. coordinate (raster_point (drop (j + 1) ns) (c.loop-j.left / s)) (k - (j + 1))) side ∙ sym (digit_step ns j k c.loop-j.left c.loop-j-test.true m)
+    ∙ c.loop-j.invariant
 
 pub returns : goal.returns
 returns g c =
@@ -30,4 +31,5 @@ returns g c =
     let m : k < length ns = omega (arith, length-map n nat_abs, axes, c.requires) in
     let e : c.loop-j.j ≡ k = omega arith in
     let side = ap nat_abs (to_z-of_z w32 c.side-2.result f ∙ c.side-2.ensures.value) ∙ sym (side_is n k) in
-    ap (λ s. left % s) side ∙ ap nat_abs (sym (digit_last ns k left m) ∙ sym (ap (λ j. coordinate (raster_point (drop j ns) left) (k - j)) e) ∙ c.loop-j.invariant)
+    ap (λ s. left % s) side
+    ∙ ap nat_abs (sym (digit_last ns k left m) ∙ sym (ap (λ j. coordinate (raster_point (drop j ns) left) (k - j)) e) ∙ c.loop-j.invariant)

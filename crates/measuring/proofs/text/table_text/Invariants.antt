@@ -8,4 +8,4 @@ abbrev pub invariant-loop-i : goal.invariant-loop-i
 invariant-loop-i g l =
     let told = measures_told (sides_of (g.P.Point.coords l.sides.lengths)) in
     let more = g.C.Columns.columns l.more in
-    l.csv ++ rows_text g.P.Point.DIM more l.i (map told (drop l.i l.all)) ≡ table_text g.P.Point.DIM more (map told l.all)
+    l.csv ++ rows_text l.told g.P.Point.DIM more l.i (map told (drop l.i l.all)) ≡ table_text l.told g.P.Point.DIM more (map told l.all)

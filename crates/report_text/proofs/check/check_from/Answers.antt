@@ -28,7 +28,8 @@ lines-preserved g c =
       begun = next.reads.still_begun;
       come = λ X text start.
           let R = report_of g.L.ReportLine.form g.L.ReportLine.last (g.J.ReportJudge.good X) in
-          if_told text (λ t h. one_more R g.met.L.ReportLine.laws (g.J.ReportJudge.stands X c.lines.judge) c.lines.line t left new l (g.J.ReportJudge.stands X c.take.new.self) h taken
+          if_told text (λ t h. one_more R g.met.L.ReportLine.laws (g.J.ReportJudge.stands X c.lines.judge) c.lines.line t left new l
+          (g.J.ReportJudge.stands X c.take.new.self) h taken
           ((took.answer X h.lines h.follows).0 good) (OnTrue_at good (took.stands X h.lines h.follows))) (inv.come X text start);
       some = omega arith;
       few = omega (arith, inv.few, OnTrue_at good took.room);
@@ -103,7 +104,8 @@ returns-in-None-clause-checked g c = λ X text start.
     let new = ahead_of c.next_text.new.reader.ahead at_place in
     let bytes = c.next_text.new.reader.line in
     let line : TakesLine left new bytes (length bytes) = rw c.in-Line.is at c.in_ok-next_text.ensures.answer in
-    let none : (l : g.row.L-Seen.Denot) → g.L.ReportLine.form.IsLine l → g.L.ReportLine.form.spelling l ≢ c.line.result.now = rw c.in-None.is at c.read.ensures in
+    let none : (l : g.row.L-Seen.Denot) → g.L.ReportLine.form.IsLine l → g.L.ReportLine.form.spelling l ≢ c.line.result.now =
+    rw c.in-None.is at c.read.ensures in
     let bad = misspelt g.L.ReportLine.form is left new bytes (length bytes) line (λ l f e. none l f (e ∙ sym c.line.ensures)) in
     record {
       answer = (record { some = inv.some; few = omega (arith, inv.few) }, if_told text (λ t h. bad_line R is F c.lines.line t left h bad) come);
@@ -172,7 +174,8 @@ pub returns-in_err-next_text-clause-kept : goal.returns-in_err-next_text-clause-
 returns-in_err-next_text-clause-kept g c = λ X text start. let p = err_from_is_err_and c.from_residual.result c.from_residual.ensures.1 in rw p.1 tt
 
 pub returns-in_err-take-in-Some-clause-kept : goal.returns-in_err-take-in-Some-clause-kept
-returns-in_err-take-in-Some-clause-kept g c = λ X text start. let p = err_from_is_err_and c.from_residual-in_err-take-in-Some.result c.from_residual-in_err-take-in-Some.ensures.1 in rw p.1 tt
+returns-in_err-take-in-Some-clause-kept g c = λ X text start. let p = err_from_is_err_and c.from_residual-in_err-take-in-Some.result
+    c.from_residual-in_err-take-in-Some.ensures.1 in rw p.1 tt
 
 pub returns-then-not-branch-clause-kept : goal.returns-then-not-branch-clause-kept
 returns-then-not-branch-clause-kept g c = λ X text start. tt

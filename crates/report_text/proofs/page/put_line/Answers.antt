@@ -9,4 +9,5 @@ returns-clause-telling g c = λ begun text h.
     let line = c.args.line.now in
     let before = take c.in_ok-at.at c.args.page.now in
     let told = telling_held begun now (text ++ []) before (line ++ 10 ∷ []) (c.in_ok-at.ensures.telling begun text h) in
-    subst (λ page. IsTelling begun (text ++ (line ++ 10 ∷ [])) (Some page) now) (sym c.put_line_on.ensures.line) (telling_then begun now text (line ++ 10 ∷ []) _ told)
+    subst (λ page. IsTelling begun (text ++ (line ++ 10 ∷ [])) (Some page) now) (sym c.put_line_on.ensures.line)
+    (telling_then begun now text (line ++ 10 ∷ []) _ told)

@@ -11,6 +11,7 @@ loop-i-preserved c =
     let l = c.loop-i in
     let x = share_of c.get.result in
     record {
-      text = c.put_share.ensures.text ∙ ap (λ t. t ++ behind_blanks (share.words x)) l.invariant.text ∙ front_more share.words (decimal (length c.args.shares.now)) c.args.shares.now l.i x c.args.text.now c.get.ensures;
+      text = c.put_share.ensures.text ∙ ap (λ t. t ++ behind_blanks (share.words x)) l.invariant.text
+          ∙ front_more share.words (decimal (length c.args.shares.now)) c.args.shares.now l.i x c.args.text.now c.get.ensures;
       room = omega (arith, c.put_share.ensures.room, l.invariant.room);
     }

@@ -11,6 +11,7 @@ loop-i-preserved c =
     let l = c.loop-i in
     let x = step_share_of c.get.result in
     record {
-      text = c.put_step_share.ensures.text ∙ ap (λ t. t ++ behind_blanks ((step_share 3).words x)) l.invariant.text ∙ front_more (step_share 3).words (decimal (length c.args.shares.now)) c.args.shares.now l.i x c.args.text.now c.get.ensures;
+      text = c.put_step_share.ensures.text ∙ ap (λ t. t ++ behind_blanks ((step_share 3).words x)) l.invariant.text
+          ∙ front_more (step_share 3).words (decimal (length c.args.shares.now)) c.args.shares.now l.i x c.args.text.now c.get.ensures;
       room = omega (arith, c.put_step_share.ensures.room, l.invariant.room);
     }

@@ -8,6 +8,7 @@ pub loop-preserved : goal.loop-preserved
 loop-preserved c =
     let l = c.loop in
     rw c.push.ensures (record {
-      read = read_more share c.in_ok-len.len l.counter c.few.new.words l.words c.share.new.words l.shares (share_of c.in_ok-share.field-0) c.loop-test.true l.invariant.read c.in_ok-share.ensures;
+      read = read_more share c.in_ok-len.len l.counter c.few.new.words l.words c.share.new.words l.shares (share_of c.in_ok-share.field-0) c.loop-test.true
+          l.invariant.read c.in_ok-share.ensures;
       count = length-append l.shares (share_of c.in_ok-share.field-0 ∷ []) ∙ ap (λ n. n + 1) l.invariant.count;
     })

@@ -8,6 +8,7 @@ pub loop-preserved : goal.loop-preserved
 loop-preserved c =
     let l = c.loop in
     rw c.push.ensures (record {
-      read = read_more (step_share c.args.dim) c.in_ok-len.len l.counter c.few.new.words l.words c.step_share.new.words l.shares (step_share_of c.in_ok-step_share.field-0) c.loop-test.true l.invariant.read c.in_ok-step_share.ensures;
+      read = read_more (step_share c.args.dim) c.in_ok-len.len l.counter c.few.new.words l.words c.step_share.new.words l.shares
+          (step_share_of c.in_ok-step_share.field-0) c.loop-test.true l.invariant.read c.in_ok-step_share.ensures;
       count = length-append l.shares (step_share_of c.in_ok-step_share.field-0 ∷ []) ∙ ap (λ n. n + 1) l.invariant.count;
     })

@@ -12,4 +12,5 @@ pub loop-i-preserved : goal.loop-i-preserved
 loop-i-preserved c =
     let points = c.args.points.now in
     below_more (λ (k : ℕ). IsTrue (in_box (most_flat ∷ most_flat ∷ []) (point_at (map flat_point points) k))) c.loop-i.i c.loop-i.invariant
-    (subst (λ (q : Point). IsTrue (in_box (most_flat ∷ most_flat ∷ []) q)) (sym (get_or-map flat_point points c.loop-i.i _ [] c.loop-i-test.true)) (c.is_inside.ensures c.if-not-is_inside.false))
+    (subst (λ (q : Point). IsTrue (in_box (most_flat ∷ most_flat ∷ []) q)) (sym (get_or-map flat_point points c.loop-i.i _ [] c.loop-i-test.true))
+    (c.is_inside.ensures c.if-not-is_inside.false))

@@ -13,4 +13,7 @@ loop-i-preserved c =
     let i = c.loop-i.i in
     let next : i + 1 < length points = omega arith in
     below_more (λ (k : ℕ). AreClose (point_at (map flat_point points) k) (point_at (map flat_point points) (k + 1))) i c.loop-i.invariant
-    (rw (get_or-map flat_point points i (record { y = pos 0; x = pos 0 }) [] (omega arith), get_or-map flat_point points (i + 1) (record { y = pos 0; x = pos 0 }) [] next) (c.is_close.ensures c.if-not-is_close.false))
+    (rw (
+      get_or-map flat_point points i (record { y = pos 0; x = pos 0 }) [] (omega arith),
+      get_or-map flat_point points (i + 1) (record { y = pos 0; x = pos 0 }) [] next,
+    ) (c.is_close.ensures c.if-not-is_close.false))

@@ -1,10 +1,11 @@
-use Rattle.std.proofs.Common.{◌+◌, vec_len}
+use Rattle.std.proofs.Common.{◌+◌, length}
 use Rattle.shape_adj.specs.Todo.{trues}
 use Rattle.shape_adj.proofs.Labelling.{Filling}
 use Rattle.shape_adj.proofs.flood.fill.Given as goal
 
-abbrev pub invariant-loop-p : goal.invariant-loop-p
-invariant-loop-p g l = Filling (g.N.Net.Holds l.net) (g.N.Net.Adjacent l.net) (g.N.Net.size l.net) l.s l.label (g.L.LabelStore.Tells l.labels) l.fn.todo l.fn.work.items l.todo l.work.items
+abbrev pub invariant-loop-run : goal.invariant-loop-run
+invariant-loop-run g l = Filling (g.N.RowNet.Holds l.fn.net) (g.N.RowNet.Adjacent l.fn.net) (g.N.RowNet.size l.fn.net) (g.N.RowNet.width l.fn.net) l.fn.s
+    l.fn.label (g.L.LabelStore.Tells l.search.labels) l.fn.search.todo l.fn.search.work.items l.search.todo l.search.work.items
 
-abbrev pub decreases-loop-p : goal.decreases-loop-p
-decreases-loop-p g l = trues l.todo + vec_len l.work
+abbrev pub decreases-loop-run : goal.decreases-loop-run
+decreases-loop-run g l = trues l.search.todo + length l.search.work.items

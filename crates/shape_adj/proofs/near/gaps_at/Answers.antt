@@ -12,7 +12,8 @@ loop-k-preserved g c =
     let n = g.P.Point.coords c.args.sides.now.lengths in
     let k = c.loop-k.k in
     let axes = length-map n nat_abs ∙ g.met.P.Point.axes c.args.sides.now.lengths in
-    let short : k < length (near_steps (length (sides_of n))) = omega (arith, c.NEAR_COUNT-k-end.ensures, g.met.P.Pairing.near_total, ap (λ d. length (near_steps d)) axes) in
+    let short : k < length (near_steps (length (sides_of n))) =
+    omega (arith, c.NEAR_COUNT-k-end.ensures, g.met.P.Pairing.near_total, ap (λ d. length (near_steps d)) axes) in
     let new = near_gap (sides_of n) k (omega (arith, c.args.sides.now.few)) short c.args.i c.near_number.result c.requires.point
     (c.requires.inner k (omega (arith, c.NEAR_COUNT-k-end.ensures))) c.near_number.ensures in
     let old = c.loop-k.invariant in

@@ -16,8 +16,12 @@ returns-then-x-lt1-clause-exactly g c =
     let total = g.met.P.Pairing.near_total in
     let two = subst (λ d. (d ≡ 2) ⊎ (d ≡ 3)) (sym a) g.met.P.Point.two_or_three in
     let inner = λ (h : (k : ℕ) → k < g.P.Pairing.NEAR_COUNT → IsTrue (in_box (sides_of ns) (near_point p k))).
-    apart ns p g.P.Point.MAX_SIDE s.in_range two (b ∙ sym a) (λ k l. h k (rw (total, sym b) l)) c.loop-k.k (omega arith) in
-    ((λ f. cc), (λ h. let i = inner h in elim c.then-x-lt1.branch [ then-x-lt1-via-then-x-lt1 w ↦ absurd (omega (arith, ints, i.0)) | then-x-lt1-via-else-x-lt1+then-x-side w ↦ absurd (omega (arith, ints, i.1)) ]))
+    apart ns p g.P.Point.MAX_SIDE s.in_range two (b ∙ sym a) (λ k l. h k (rw (total, sym b) l)) c.loop-k.k (omega arith) in (
+      (λ f. cc),
+      (λ h. let i = inner h in
+          elim c.then-x-lt1.branch
+          [ then-x-lt1-via-then-x-lt1 w ↦ absurd (omega (arith, ints, i.0)) | then-x-lt1-via-else-x-lt1+then-x-side w ↦ absurd (omega (arith, ints, i.1)) ]),
+    )
 
 pub returns-clause-exactly : goal.returns-clause-exactly
 returns-clause-exactly g c =
@@ -26,8 +30,10 @@ returns-clause-exactly g c =
     let p = g.P.Point.coords c.args.p in
     let a = g.met.P.Point.axes s.lengths in
     let b = g.met.P.Point.axes c.args.p in
-    let total = g.met.P.Pairing.near_total in
-    ((λ t k l. all_inside ns p (b ∙ sym a) (λ j m. c.loop-k.invariant j (omega arith)) k (subst (λ d. k < length (near_steps d)) (sym b) (omega arith))), (λ h. refl))
+    let total = g.met.P.Pairing.near_total in (
+      (λ t k l. all_inside ns p (b ∙ sym a) (λ j m. c.loop-k.invariant j (omega arith)) k (subst (λ d. k < length (near_steps d)) (sym b) (omega arith))),
+      (λ h. refl),
+    )
 
 pub returns-clause-itself : goal.returns-clause-itself
 returns-clause-itself g c =

@@ -8,14 +8,16 @@ passed-requires-clause-some g c =
     let s = c.args.sides.now in
     let f : FitsSigned w64 c.offset.result = search rules in
     let l = g.met.P.Point.axes c.args.step ∙ sym (g.met.P.Point.axes s.lengths) in
-    rw (to_z-of_z w64 c.offset.result f, c.offset.ensures.value) (number_some (g.P.Point.coords s.lengths) (g.P.Point.coords c.args.step) c.args.i (omega (arith, s.few)) l c.requires.point c.requires.inside)
+    rw (to_z-of_z w64 c.offset.result f, c.offset.ensures.value)
+    (number_some (g.P.Point.coords s.lengths) (g.P.Point.coords c.args.step) c.args.i (omega (arith, s.few)) l c.requires.point c.requires.inside)
 
 pub passed-requires-clause-most : goal.passed-requires-clause-most
 passed-requires-clause-most g c =
     let s = c.args.sides.now in
     let f : FitsSigned w64 c.offset.result = search rules in
     let l = g.met.P.Point.axes c.args.step ∙ sym (g.met.P.Point.axes s.lengths) in
-    rw (to_z-of_z w64 c.offset.result f, c.offset.ensures.value) (number_few (g.P.Point.coords s.lengths) (g.P.Point.coords c.args.step) c.args.i (omega (arith, s.few)) l c.requires.point c.requires.inside)
+    rw (to_z-of_z w64 c.offset.result f, c.offset.ensures.value)
+    (number_few (g.P.Point.coords s.lengths) (g.P.Point.coords c.args.step) c.args.i (omega (arith, s.few)) l c.requires.point c.requires.inside)
 
 pub returns : goal.returns
 returns g c =

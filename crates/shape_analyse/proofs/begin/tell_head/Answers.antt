@@ -25,12 +25,14 @@ returns-clause-told g c =
     let counts : Counts X n parts.object parts.background = rw c.count.ensures c.requires in
     let same : c.last_number.result ≡ last_number (length X.sides) = c.last_number.ensures.value ∙ ap last_number (sym w.axes) in
     let state = g.D.Desk.state in
-    let told = subst (λ n. TellsMore (line_text (Line.Shape (record { number = n; sides = sides; rule = word_of rule }))) c.args.page.now c.line.new.self (state c.args.desk.now) (state c.line.new.desk)) same c.line.ensures in
+    let told = subst (λ n. TellsMore (line_text (Line.Shape (record { number = n; sides = sides; rule = word_of rule }))) c.args.page.now c.line.new.self
+    (state c.args.desk.now) (state c.line.new.desk)) same c.line.ensures in
     λ shelf by begun on start.
     let aim = aim_of X shelf (word_of rule) by in
     let head = Line.Shape (heading_of aim sides) in
     let second_line = Line.Parts n parts.object parts.background in
-    let growing = growing_none g.P.Point.MAX_SIDE aim sides n parts.object parts.background s.in_range c.sides-sides.ensures.value three first on second counts in
+    let growing = growing_none g.P.Point.MAX_SIDE aim sides n parts.object parts.background s.in_range c.sides-sides.ensures.value three first on second counts
+    in
     let none = tells_as (λ text e. record { lines = []; is = e; so = refl }) start in
     let one = tells_line {Was = λ lines. lines ≡ []} {IsSo = λ lines. lines ≡ head ∷ []} head told (λ lines e. ap (λ ls. ls ++ head ∷ []) e) none in
     tells_line second_line c.line-2.ensures (λ lines e. subst (λ ls. IsGrowing aim 0 (ls ++ second_line ∷ [])) (sym e) growing) one

@@ -36,7 +36,9 @@ loop-p-preserved g c =
       next.1,
       omega (arith, next.2),
       λ shelf name by begun start.
-          tells_line (near_line p q) c.tell_near.ensures.told (λ lines so. growing_more (aim_of X shelf name by) c.loop-p.i lines p q _ so three fields next.0 least) (c.loop-p.invariant.4 shelf name by begun start),
+          tells_line (near_line p q) c.tell_near.ensures.told
+          (λ lines so. growing_more (aim_of X shelf name by) c.loop-p.i lines p q _ so three fields next.0 least)
+          (c.loop-p.invariant.4 shelf name by begun start),
     )
 
 pub returns : goal.returns
@@ -44,4 +46,5 @@ returns g c =
     let points = object_points c.args.grid.now in
     let all : c.loop-p.i ≡ length points = none_left points c.loop-p.i c.loop-p.invariant.3 (c.loop-p.invariant.2 ∙ c.in-None.ensures.steps.0) in
     λ shelf name by begun start.
-    subst (λ n. Tells (IsTextOf (IsGrowing (aim_of c.args.grid.now shelf name by) n)) begun c.loop-p.page (g.D.Desk.state c.loop-p.desk)) all (c.loop-p.invariant.4 shelf name by begun start)
+    subst (λ n. Tells (IsTextOf (IsGrowing (aim_of c.args.grid.now shelf name by) n)) begun c.loop-p.page (g.D.Desk.state c.loop-p.desk)) all
+    (c.loop-p.invariant.4 shelf name by begun start)

@@ -13,5 +13,6 @@ invariant-loop-p g l =
     × (goal.iterator-loop-p g).is_finite l.p-iterator
     × (drop l.i (object_points l.grid) ≡ objects_from l.p-iterator.grid.now l.p-iterator.next)
     × (l.i ≤ length (object_points l.grid))
-    × ((shelf : List (Named Rule)) (name : List ℕ) (by : Rule) (begun : DeskState) → Tells (IsTextOf (IsGrowing (aim_of l.grid shelf name by) 0)) begun l.fn.page (g.D.Desk.state l.fn.desk)
+    × ((shelf : List (Named Rule)) (name : List ℕ) (by : Rule) (begun : DeskState)
+    → Tells (IsTextOf (IsGrowing (aim_of l.grid shelf name by) 0)) begun l.fn.page (g.D.Desk.state l.fn.desk)
     → Tells (IsTextOf (IsGrowing (aim_of l.grid shelf name by) l.i)) begun l.page (g.D.Desk.state l.desk))

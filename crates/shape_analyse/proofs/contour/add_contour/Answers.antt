@@ -1,13 +1,14 @@
 use Rattle.std.proofs.Common.{length, subst, sym, ◌∙◌, arith, ◌++◌}
 use Rattle.std.proofs.lemmas.List.{length-map}
-use Rattle.shape_cover.specs.Found.{Found, stretches_of}
+use Rattle.shape_line.specs.Found.{Found, stretches_of}
 use Rattle.shape_analyse.specs.Growing.{Stands, outlined}
 use Rattle.shape_analyse.proofs.Growth.{text_as}
 use Rattle.shape_analyse.proofs.ContourGrowth.{outlined_full}
 use Rattle.shape_analyse.proofs.contour.add_contour.Goals as goal
 
 pub returns-clause-segments : goal.returns-clause-segments
-returns-clause-segments c = (stretches_of c.in_ok-cover.cover, c.in_ok-cover.ensures.cover, c.len-segments.ensures ∙ sym (length-map c.in_ok-cover.cover (λ (f : Found). f.stretch)))
+returns-clause-segments c =
+    (stretches_of c.in_ok-cover.cover, c.in_ok-cover.ensures.cover, c.len-segments.ensures ∙ sym (length-map c.in_ok-cover.cover (λ (f : Found). f.stretch)))
 
 pub returns-clause-few : goal.returns-clause-few
 returns-clause-few c = omega (arith, c.len-segments.ensures, c.in_ok-cover.ensures.few, c.is_closed_path.ensures.few)

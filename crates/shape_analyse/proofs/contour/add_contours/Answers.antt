@@ -9,5 +9,9 @@ loop-k-preserved c =
     let h = c.loop-k.invariant in
     let n = c.from.result in
     let more = c.in_ok-add_contour.ensures in
-    let has = subst (HasSegments c.contour.result.now) (sym c.from.ensures) more.segments in
-    (λ X before t. more.text X c.args.contours.now k before c.contour.ensures (h.0 X before t), covers_more c.args.contours.now k c.loop-k.segments n c.contour.result.now c.contour.ensures h.1 has, omega (arith, h.2, c.from.ensures, more.few))
+    let has = subst (HasSegments c.contour.result.now) (sym c.from.ensures) more.segments in (
+      λ X before t. more.text X c.args.contours.now k before c.contour.ensures (h.0 X before t),
+      covers_more c.args.contours.now k c.loop-k.segments n
+          c.contour.result.now c.contour.ensures h.1 has,
+      omega (arith, h.2, c.from.ensures, more.few),
+    )

@@ -5,5 +5,6 @@ use Rattle.shape_analyse.specs.Tallies.{HaveCovers}
 use Rattle.shape_analyse.proofs.contour.add_contours.Given as goal
 
 abbrev pub invariant-loop-k : goal.invariant-loop-k
-invariant-loop-k l = ((X : Aim) (before : List ℕ) → IsTextOf (HasOutlined X l.contours 0) (before ++ l.fn.report) → IsTextOf (HasOutlined X l.contours l.k) (before ++ l.report))
+invariant-loop-k l = ((X : Aim) (before : List ℕ) → IsTextOf (HasOutlined X l.contours 0) (before ++ l.fn.report)
+    → IsTextOf (HasOutlined X l.contours l.k) (before ++ l.report))
     × HaveCovers (take l.k l.contours) l.segments × (l.segments ≤ l.k * most_round)

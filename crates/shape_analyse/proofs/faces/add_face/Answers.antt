@@ -25,7 +25,8 @@ returns-clause-text c =
     let left = c.in_ok-parting.parting.left in
     let n = c.count-points.result in
     let sense = c.sense_in-sense in
-    let there : IsFace c.args.grid.now (face_axis f) (face_sense f) left = subst (λ s. IsFace c.args.grid.now (face_axis f) s left) sense.ensures c.in_ok-parting.ensures.left in
+    let there : IsFace c.args.grid.now (face_axis f) (face_sense f) left = subst (λ s. IsFace c.args.grid.now (face_axis f) s left) sense.ensures
+    c.in_ok-parting.ensures.left in
     let own : IsLineOf 3 (Line.Face (face_axis f) (sense_of sense.result) n) = search rules in
     let fields = subst (λ s. IsLineOf 3 (Line.Face (face_axis f) s n)) sense.ensures own in
     let text = subst (λ s. c.add.new.self ≡ c.args.report.now ++ line_text (Line.Face (face_axis f) s n)) sense.ensures c.in_ok-add.ensures.ok in
@@ -34,5 +35,6 @@ returns-clause-text c =
     let face : IsFace Y (face_axis f) (face_sense f) left = subst (λ (Z : Picture). IsFace Z (face_axis f) (face_sense f) left) (sym same) there in
     let are : AreFound X f [] left = found_none X f left c.requires face in
     let count : n ≡ length (exposed_points Y (face_axis f) (face_sense f)) = c.count-points.ensures ∙ face_count Y (face_axis f) (face_sense f) left face in
-    let begun = text_more _ _ _ h.lines (Line.Face (face_axis f) (face_sense f) n) h.is (text_behind before _ _ text) (face_begun X f h.lines n h.so c.requires count fields) in
+    let begun = text_more _ _ _ h.lines (Line.Face (face_axis f) (face_sense f) n) h.is (text_behind before _ _ text)
+    (face_begun X f h.lines n h.so c.requires count fields) in
     c.in_ok-add_patches.ensures X f before c.in_ok-parting.ensures.axis are begun

@@ -10,8 +10,11 @@ loop-face-preserved c =
     let X = c.args.grid.now in
     let f = c.loop-face.face in
     let h = c.loop-face.invariant in
-    let more = c.in_ok-add_face.ensures in
-    (λ Y before same t. more.text Y before same (h.0 Y before same t), omega (arith, h.1, more.exposed, c.from.ensures, exposed_more X f), omega (arith, h.2, c.from.ensures, more.few))
+    let more = c.in_ok-add_face.ensures in (
+      λ Y before same t. more.text Y before same (h.0 Y before same t),
+      omega (arith, h.1, more.exposed, c.from.ensures, exposed_more X f),
+      omega (arith, h.2, c.from.ensures, more.few),
+    )
 
 pub returns-clause-exposed : goal.returns-clause-exposed
 returns-clause-exposed c =

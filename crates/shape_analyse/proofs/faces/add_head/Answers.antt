@@ -18,4 +18,5 @@ returns c =
     let text = subst (λ z. c.add.new.self ≡ c.args.report.now ++ line_text (Line.Patch (length x.patch.points) a z)) copied
     (subst (λ m. c.add.new.self ≡ c.args.report.now ++ line_text (Line.Patch m a (to_z w64 (of_z w64 n.mu)))) c.len.ensures c.in_ok-add.ensures.ok) in
     λ X f found left before are h.
-    text_more _ _ _ h.lines (Line.Patch (length x.patch.points) a n.mu) h.is (text_behind before _ _ text) (patch_begun X f found left x are h.lines a n.mu h.so c.naive-plane.ensures.plane fields)
+    text_more _ _ _ h.lines (Line.Patch (length x.patch.points) a n.mu) h.is (text_behind before _ _ text)
+    (patch_begun X f found left x are h.lines a n.mu h.so c.naive-plane.ensures.plane fields)

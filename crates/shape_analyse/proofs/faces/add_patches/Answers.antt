@@ -7,7 +7,8 @@ use Rattle.shape_analyse.proofs.FaceGrowth.{found_more, face_done}
 use Rattle.shape_analyse.proofs.faces.add_patches.Goals as goal
 
 pub loop-patch-smaller : goal.loop-patch-smaller
-loop-patch-smaller c = fewer_left 3 c.loop-patch.parting.axis c.loop-patch.parting.left c.next_patch.new.self.left c.in-Some.patch.found (MatchOption-at_some _ _ _ c.in-Some.is c.in_ok-patch.ensures.next)
+loop-patch-smaller c = fewer_left 3 c.loop-patch.parting.axis c.loop-patch.parting.left c.next_patch.new.self.left c.in-Some.patch.found
+    (MatchOption-at_some _ _ _ c.in-Some.is c.in_ok-patch.ensures.next)
 
 pub loop-patch-preserved : goal.loop-patch-preserved
 loop-patch-preserved c =
@@ -16,7 +17,8 @@ loop-patch-preserved c =
       c.in_ok-patch.ensures.axis ∙ old.0,
       λ X f before axis are begun.
           let so_far = old.1 X f before axis are begun in
-          let more = found_more X f so_far.0 c.loop-patch.parting.left c.next_patch.new.self.left c.in-Some.patch.found so_far.1 (subst (λ t. IsNextPatch 3 t c.loop-patch.parting.left c.next_patch.new.self.left c.in-Some.patch.found) (old.0 ∙ axis) next) in
+          let more = found_more X f so_far.0 c.loop-patch.parting.left c.next_patch.new.self.left c.in-Some.patch.found so_far.1
+          (subst (λ t. IsNextPatch 3 t c.loop-patch.parting.left c.next_patch.new.self.left c.in-Some.patch.found) (old.0 ∙ axis) next) in
           (so_far.0 ++ c.in-Some.patch.found ∷ [], more, c.in_ok-add_patch.ensures X f so_far.0 c.next_patch.new.self.left before more so_far.2),
     )
 

@@ -8,7 +8,8 @@ use Rattle.shape_analyse.proofs.faces.add_patches.Given as goal
 
 abbrev pub invariant-loop-patch : goal.invariant-loop-patch
 invariant-loop-patch l = (l.parting.axis ≡ l.fn.parting.axis)
-    × ((X : Aim) (f : ℕ) (before : List ℕ) → l.fn.parting.axis ≡ face_axis f → AreFound X f [] l.fn.parting.left → IsTextOf (HasPatches X f []) (before ++ l.fn.report)
+    × ((X : Aim) (f : ℕ) (before : List ℕ) → l.fn.parting.axis ≡ face_axis f → AreFound X f [] l.fn.parting.left
+    → IsTextOf (HasPatches X f []) (before ++ l.fn.report)
     → (found : List FoundPatch) × AreFound X f found l.parting.left × IsTextOf (HasPatches X f found) (before ++ l.report))
 
 abbrev pub decreases-loop-patch : goal.decreases-loop-patch

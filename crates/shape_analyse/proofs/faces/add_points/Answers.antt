@@ -12,7 +12,8 @@ loop-j-preserved c =
     let fields : IsLineOf 3 (Line.On (p.x ∷ p.y ∷ p.z ∷ [])) = search rules in
     λ X f found left before are h.
     let i = c.loop-j.invariant X f found left before are h in
-    text_more _ _ _ i.lines _ i.is (text_behind before _ _ c.in_ok-add.ensures.ok) (patch_point X f found left c.args.patch.now.found are i.lines c.loop-j.j (p.x ∷ p.y ∷ p.z ∷ []) i.so c.point.ensures fields)
+    text_more _ _ _ i.lines _ i.is (text_behind before _ _ c.in_ok-add.ensures.ok)
+    (patch_point X f found left c.args.patch.now.found are i.lines c.loop-j.j (p.x ∷ p.y ∷ p.z ∷ []) i.so c.point.ensures fields)
 
 pub returns : goal.returns
 returns c =

@@ -7,4 +7,5 @@ use Rattle.shape_analyse.proofs.faces.add_points.Given as goal
 
 abbrev pub invariant-loop-j : goal.invariant-loop-j
 invariant-loop-j l = (X : Aim) (f : ℕ) (found : List FoundPatch) (left : Picture) (before : List ℕ) → AreFound X f (found ++ l.patch.found ∷ []) left
-    → IsTextOf (IsFacing X (at_patch f (points_found found) l.patch.found 0 0)) (before ++ l.fn.report) → IsTextOf (IsFacing X (at_patch f (points_found found) l.patch.found l.j 0)) (before ++ l.report)
+    → IsTextOf (IsFacing X (at_patch f (points_found found) l.patch.found 0 0)) (before ++ l.fn.report)
+    → IsTextOf (IsFacing X (at_patch f (points_found found) l.patch.found l.j 0)) (before ++ l.report)

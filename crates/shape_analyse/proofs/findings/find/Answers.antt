@@ -5,10 +5,12 @@ use Rattle.shape_analyse.proofs.TallyGrowth.{rule_at}
 use Rattle.shape_analyse.proofs.findings.find.Goals as goal
 
 pub returns-in_err-thinning-clause-kept : goal.returns-in_err-thinning-clause-kept
-returns-in_err-thinning-clause-kept g c = rules_same _ c.args.shelf.now c.args.which c.rule.result.now c.thinned.new.rule c.rule.ensures.value c.thinned.ensures.same_rule
+returns-in_err-thinning-clause-kept g c = rules_same _ c.args.shelf.now c.args.which c.rule.result.now c.thinned.new.rule c.rule.ensures.value
+    c.thinned.ensures.same_rule
 
 pub returns-in_err-outline-clause-kept : goal.returns-in_err-outline-clause-kept
-returns-in_err-outline-clause-kept g c = rules_same _ c.args.shelf.now c.args.which c.rule.result.now c.thinned.new.rule c.rule.ensures.value c.thinned.ensures.same_rule
+returns-in_err-outline-clause-kept g c = rules_same _ c.args.shelf.now c.args.which c.rule.result.now c.thinned.new.rule c.rule.ensures.value
+    c.thinned.ensures.same_rule
 
 pub returns-clause-kept : goal.returns-clause-kept
 returns-clause-kept g c = rules_same _ c.args.shelf.now c.args.which c.rule.result.now c.thinned.new.rule c.rule.ensures.value c.thinned.ensures.same_rule

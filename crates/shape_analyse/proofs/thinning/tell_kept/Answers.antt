@@ -13,4 +13,5 @@ returns g c = λ X stage begun t left counts h.
     let fields : IsLineOf g.P.Point.DIM (Line.Kept n parts.object parts.background) = search rules in
     let mine : Counts c.args.thinning.now.left n parts.object parts.background = rw (c.count.ensures, c.left.ensures) counts in
     let there : Counts stage.left n parts.object parts.background = subst (λ (Y : Picture). Counts Y n parts.object parts.background) (sym left) mine in
-    tells_line (Line.Kept n parts.object parts.background) c.line.ensures (λ lines so. events_kept g.P.Point.DIM X c.args.thinning.now.events stage lines n parts.object parts.background so t there fields) h
+    tells_line (Line.Kept n parts.object parts.background) c.line.ensures
+    (λ lines so. events_kept g.P.Point.DIM X c.args.thinning.now.events stage lines n parts.object parts.background so t there fields) h

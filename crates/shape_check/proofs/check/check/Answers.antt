@@ -30,9 +30,14 @@ returns-in_default-clause-checked g c =
     let ahead = c.in_ok-reader.ensures.ahead in
     let sides = g.P.Point.coords c.sides.result.lengths in
     let given = sym (sides_back g.P.Point.MAX_SIDE sides c.sides.result.in_range) ∙ ap (map pos) c.sides.ensures.value in
-    let lacks = subst (λ l. IfTold l (LacksHeading g.P.Point.DIM sides (names_of c.args.shelf.now))) (none_ahead c.in_ok-reader.reader.ahead text ahead) (rw c.in_default.is at c.in_ok-given.ensures.answer) in
+    let lacks = subst (λ l. IfTold l (LacksHeading g.P.Point.DIM sides (names_of c.args.shelf.now))) (none_ahead c.in_ok-reader.reader.ahead text ahead)
+    (rw c.in_default.is at c.in_ok-given.ensures.answer) in
     record {
-      answer = (record { some = omega arith; few = omega arith }, heading_missed _ c.args.grid.now c.args.shelf.now g.P.Point.DIM c.is_picture.ensures.picture.axes sides given text lacks);
+      answer = (
+        record { some = omega arith; few = omega arith },
+        heading_missed _ c.args.grid.now c.args.shelf.now g.P.Point.DIM
+            c.is_picture.ensures.picture.axes sides given text lacks,
+      );
       taken = few_ahead _ c.in_ok-reader.reader.ahead text _ ahead c.find_heading.ensures.taken;
     }
 
@@ -49,8 +54,10 @@ returns-clause-checked g c =
     let sides = g.P.Point.coords c.sides.result.lengths in
     let given = sym (sides_back g.P.Point.MAX_SIDE sides c.sides.result.in_range) ∙ ap (map pos) c.sides.ensures.value in
     let left = ahead_of c.find_heading.new.reader.ahead ((g.D.Desk.state c.find_heading.new.desk).left Report) in
-    let takes = subst (λ l. IfTold l (λ bytes. TakesHeading g.P.Point.DIM sides (names_of c.args.shelf.now) bytes left c.in-Some.given)) (none_ahead c.in_ok-reader.reader.ahead text c.in_ok-reader.ensures.ahead) (rw c.in-Some.is at c.in_ok-given.ensures.answer) in
-    let behind = heading_taken _ c.args.grid.now c.args.shelf.now g.P.Point.DIM axes sides given c.has_names.ensures c.in-Some.given c.rule.result.now c.rule.ensures.value g.R.Judges.section g.met.R.Row.first text left takes in
+    let takes = subst (λ l. IfTold l (λ bytes. TakesHeading g.P.Point.DIM sides (names_of c.args.shelf.now) bytes left c.in-Some.given))
+    (none_ahead c.in_ok-reader.reader.ahead text c.in_ok-reader.ensures.ahead) (rw c.in-Some.is at c.in_ok-given.ensures.answer) in
+    let behind = heading_taken _ c.args.grid.now c.args.shelf.now g.P.Point.DIM axes sides given c.has_names.ensures c.in-Some.given c.rule.result.now
+    c.rule.ensures.value g.R.Judges.section g.met.R.Row.first text left takes in
     let checked = c.check_behind.ensures.checked _ c.in-Some.given.number text axes c.in_ok-row.ensures.waits behind in
     record {
       answer = checks_later _ text _ _ _ c.check_behind.result c.find_heading.ensures.reads.only.later checked.answer;

@@ -14,7 +14,9 @@ invariant-lines g l = record {
   text : (X : Subject) (n : ℕ) (text : Option (List ℕ)) → length X.picture.sides ≡ g.P.Point.DIM → g.R.Judges.waits X.picture n l.fn.row
       → HasCome (analysis X) (BehindHeading X n ((g.dyn-1.0.entry l.fn.rule.now.0).1.means l.fn.rule.now.1) g.R.Judges.section) text
       (ahead_of l.fn.reader.ahead ((g.D.Desk.state l.fn.desk).left Report)) 2
-      → HasCome (analysis X) (Ruled X n ((g.dyn-1.0.entry l.fn.rule.now.0).1.means l.fn.rule.now.1) (g.R.Judges.follows X n ((g.dyn-1.0.entry l.fn.rule.now.0).1.means l.fn.rule.now.1) l.row ((g.dyn-1.0.entry l.rule.now.0).1.state l.rule.now.1))) text
+      → HasCome (analysis X)
+      (Ruled X n ((g.dyn-1.0.entry l.fn.rule.now.0).1.means l.fn.rule.now.1)
+      (g.R.Judges.follows X n ((g.dyn-1.0.entry l.fn.rule.now.0).1.means l.fn.rule.now.1) l.row ((g.dyn-1.0.entry l.rule.now.0).1.state l.rule.now.1))) text
       (ahead_of l.reader.ahead ((g.D.Desk.state l.desk).left Report)) l.line;
   same_rule : (g.dyn-1.0.entry l.rule.now.0).1.means l.rule.now.1 ≡ (g.dyn-1.0.entry l.fn.rule.now.0).1.means l.fn.rule.now.1;
   some : 1 ≤ l.line;

@@ -9,8 +9,11 @@ use Rattle.shape_terms.proofs.DistanceLists.{none_yet, distances_more, distances
 use Rattle.shape_check.proofs.thinned.distances_of.Goals as goal
 
 -- what the grid finds is the next object point of the picture that was scanned
-found : (X Y : Picture) (next i : ℕ) → Y ≡ X → next ≤ box_count X.sides → i < box_count Y.sides → objects_from Y next ≡ raster_point Y.sides i ∷ objects_from Y (i + 1) → (i < box_count X.sides) × IsNext X next i
-found X Y next i e low = subst (λ Z. i < box_count Z.sides → objects_from Z next ≡ raster_point Z.sides i ∷ objects_from Z (i + 1) → (i < box_count X.sides) × IsNext X next i) (sym e) (λ l h. (l, next_object X next i low l h))
+found : (X Y : Picture) (next i : ℕ) → Y ≡ X → next ≤ box_count X.sides → i < box_count Y.sides
+    → objects_from Y next ≡ raster_point Y.sides i ∷ objects_from Y (i + 1) → (i < box_count X.sides) × IsNext X next i
+found X Y next i e low =
+    subst (λ Z. i < box_count Z.sides → objects_from Z next ≡ raster_point Z.sides i ∷ objects_from Z (i + 1) → (i < box_count X.sides) × IsNext X next i)
+    (sym e) (λ l h. (l, next_object X next i low l h))
 
 -- its sides are those of that picture
 same_sides : (X Y : Picture) (sides : List ℕ) → sides ≡ Y.sides → Y ≡ X → sides ≡ X.sides
@@ -33,18 +36,22 @@ unraster-requires g c = subst (λ s. c.in-Some.i < box_count s) (sym c.sides-sid
 pub least-requires : goal.least-requires
 least-requires g c =
     let X = c.args.scans.now in
-    let n = found X c.grid-grid.result.now c.loop-i.next c.in-Some.i c.grid-grid.ensures c.loop-i.invariant.low c.in-Some.ensures.below c.in-Some.ensures.next in
-    let point : g.P.Point.coords c.unraster.result ≡ raster_point X.sides c.in-Some.i = c.unraster.ensures.value ∙ ap (λ s. raster_point s c.in-Some.i) (same_sides X _ _ c.sides-sides.ensures.value c.grid-grid.ensures) in
+    let n = found X c.grid-grid.result.now c.loop-i.next c.in-Some.i c.grid-grid.ensures c.loop-i.invariant.low c.in-Some.ensures.below c.in-Some.ensures.next
+    in
+    let point : g.P.Point.coords c.unraster.result ≡ raster_point X.sides c.in-Some.i = c.unraster.ensures.value
+    ∙ ap (λ s. raster_point s c.in-Some.i) (same_sides X _ _ c.sides-sides.ensures.value c.grid-grid.ensures) in
     rw point n.1.object
 
 pub set-requires : goal.set-requires
 set-requires g c =
-    let n = found c.args.scans.now c.grid-grid.result.now c.loop-i.next c.in-Some.i c.grid-grid.ensures c.loop-i.invariant.low c.in-Some.ensures.below c.in-Some.ensures.next in
+    let n = found c.args.scans.now c.grid-grid.result.now c.loop-i.next c.in-Some.i c.grid-grid.ensures c.loop-i.invariant.low c.in-Some.ensures.below
+    c.in-Some.ensures.next in
     omega (arith, n.0, c.loop-i.invariant.so_far.filled)
 
 pub loop-i-smaller : goal.loop-i-smaller
 loop-i-smaller g c =
-    let n = found c.args.scans.now c.grid-grid.result.now c.loop-i.next c.in-Some.i c.grid-grid.ensures c.loop-i.invariant.low c.in-Some.ensures.below c.in-Some.ensures.next in
+    let n = found c.args.scans.now c.grid-grid.result.now c.loop-i.next c.in-Some.i c.grid-grid.ensures c.loop-i.invariant.low c.in-Some.ensures.below
+    c.in-Some.ensures.next in
     omega (arith, n.0, n.1.low)
 
 pub loop-i-preserved : goal.loop-i-preserved
@@ -53,7 +60,8 @@ loop-i-preserved g c =
     let i = c.in-Some.i in
     let s = c.least.result in
     let n = found X c.grid-grid.result.now c.loop-i.next i c.grid-grid.ensures c.loop-i.invariant.low c.in-Some.ensures.below c.in-Some.ensures.next in
-    let point : g.P.Point.coords c.unraster.result ≡ raster_point X.sides i = c.unraster.ensures.value ∙ ap (λ s. raster_point s i) (same_sides X _ _ c.sides-sides.ensures.value c.grid-grid.ensures) in
+    let point : g.P.Point.coords c.unraster.result ≡ raster_point X.sides i = c.unraster.ensures.value
+    ∙ ap (λ s. raster_point s i) (same_sides X _ _ c.sides-sides.ensures.value c.grid-grid.ensures) in
     let nearest = subst (λ p. HasDistance X p s) point (c.least.ensures.q, c.least.ensures.least) in
     let cell : HasCell c.loop-i.distances i = cell_there X c.loop-i.distances.kept i c.loop-i.invariant.cells n.0 n.1.object in
     let put = ap (λ (h : Held ℕ). h.values) c.set.ensures ∙ cell_put c.loop-i.distances i s cell in

@@ -10,4 +10,6 @@ returns-in_err-which g c =
     let names = g.N.Names.names c.args.names.now in
     let split = c.in_ok-rule.ensures.cases in
     let none = subst (λ w. Contains names w → ⊥) c.as_slice-rule.ensures.value c.in_err-which.ensures in
-    rw c.from_residual-in_err-which.ensures (analysis_by_none names (texts c.args.rest.now) (texts c.in_ok-rule.at.now) c.in_ok-rule.rule.now.items (made_to_last (λ w. w.items) c.args.rest.now c.in_ok-rule.at.now c.in_ok-rule.rule.now split.0) none)
+    rw c.from_residual-in_err-which.ensures
+    (analysis_by_none names (texts c.args.rest.now) (texts c.in_ok-rule.at.now) c.in_ok-rule.rule.now.items
+    (made_to_last (λ w. w.items) c.args.rest.now c.in_ok-rule.at.now c.in_ok-rule.rule.now split.0) none)

@@ -8,4 +8,5 @@ use Rattle.shape_cli.proofs.making.make.Goals as goal
 pub returns-in-Further : goal.returns-in-Further
 returns-in-Further g c =
     let s = g.D.Desk.state in
-    made_as c.args.wanted (read_further c.in-Further.kind) _ (picture_of c.args.image.now) (s c.args.desk.now) (s c.write_further.new.desk) c.write_further.result (ap read_wanted c.in-Further.is) c.write_further.ensures
+    made_as c.args.wanted (read_further c.in-Further.kind) _ (picture_of c.args.image.now) (s c.args.desk.now) (s c.write_further.new.desk)
+    c.write_further.result (ap read_wanted c.in-Further.is) c.write_further.ensures

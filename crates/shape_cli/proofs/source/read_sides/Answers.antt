@@ -16,4 +16,5 @@ returns c =
     let x = c.in_ok-x.ensures in
     let y = c.in_ok-y.ensures in
     let z = c.in_ok-z.ensures in
-    three_read (λ s. s.lengths) (λ p. p.x) (λ p. p.y) (λ p. p.z) _ c.try_new.result c.args.x.now.items c.args.y.now.items c.args.z.now.items _ _ _ c.try_new.ensures.given c.try_new.ensures.exactly (to_z-of_z x.0) (to_z-of_z y.0) (to_z-of_z z.0) x y z
+    three_read (λ s. s.lengths) (λ p. p.x) (λ p. p.y) (λ p. p.z) _ c.try_new.result c.args.x.now.items c.args.y.now.items c.args.z.now.items _ _ _
+    c.try_new.ensures.given c.try_new.ensures.exactly (to_z-of_z x.0) (to_z-of_z y.0) (to_z-of_z z.0) x y z

@@ -12,28 +12,34 @@ returns-in-Some-Make-clause-usage g c =
     let s = g.D.Desk.state in
     let a = c.in-Some-Make in
     let read = rw a.field-0-is at a.ensures in
-    form_run _ _ (texts c.args.words.now) (s c.args.desk.now) (s c.make_file.new.desk) c.make_file.result (asked _ _ (texts c.args.words.now) (command.Make a.source a.wanted) (s c.args.desk.now) (s c.make_file.new.desk) c.make_file.result (names_on _ c.args.shelf) read.0 read.1 c.make_file.ensures.ran)
+    form_run _ _ (texts c.args.words.now) (s c.args.desk.now) (s c.make_file.new.desk) c.make_file.result
+    (asked _ _ (texts c.args.words.now) (command.Make a.source a.wanted) (s c.args.desk.now) (s c.make_file.new.desk) c.make_file.result
+    (names_on _ c.args.shelf) read.0 read.1 c.make_file.ensures.ran)
 
 pub returns-in-Some-Make-clause-ran : goal.returns-in-Some-Make-clause-ran
 returns-in-Some-Make-clause-ran g c =
     let s = g.D.Desk.state in
     let a = c.in-Some-Make in
     let read = rw a.field-0-is at a.ensures in
-    inl (asked _ _ (texts c.args.words.now) (command.Make a.source a.wanted) (s c.args.desk.now) (s c.make_file.new.desk) c.make_file.result (names_on _ c.args.shelf) read.0 read.1 c.make_file.ensures.ran)
+    inl (asked _ _ (texts c.args.words.now) (command.Make a.source a.wanted) (s c.args.desk.now) (s c.make_file.new.desk) c.make_file.result
+    (names_on _ c.args.shelf) read.0 read.1 c.make_file.ensures.ran)
 
 pub returns-in-Some-Check-clause-usage : goal.returns-in-Some-Check-clause-usage
 returns-in-Some-Check-clause-usage g c =
     let s = g.D.Desk.state in
     let a = c.in-Some-Check in
     let read = rw a.field-0-is at a.ensures in
-    form_run _ _ (texts c.args.words.now) (s c.args.desk.now) (s c.check_file.new.desk) c.check_file.result (asked _ _ (texts c.args.words.now) (command.Check a.source a.kind a.report) (s c.args.desk.now) (s c.check_file.new.desk) c.check_file.result (names_on _ c.args.shelf) read.0 read.1 c.check_file.ensures.ran)
+    form_run _ _ (texts c.args.words.now) (s c.args.desk.now) (s c.check_file.new.desk) c.check_file.result
+    (asked _ _ (texts c.args.words.now) (command.Check a.source a.kind a.report) (s c.args.desk.now) (s c.check_file.new.desk) c.check_file.result
+    (names_on _ c.args.shelf) read.0 read.1 c.check_file.ensures.ran)
 
 pub returns-in-Some-Check-clause-ran : goal.returns-in-Some-Check-clause-ran
 returns-in-Some-Check-clause-ran g c =
     let s = g.D.Desk.state in
     let a = c.in-Some-Check in
     let read = rw a.field-0-is at a.ensures in
-    inl (asked _ _ (texts c.args.words.now) (command.Check a.source a.kind a.report) (s c.args.desk.now) (s c.check_file.new.desk) c.check_file.result (names_on _ c.args.shelf) read.0 read.1 c.check_file.ensures.ran)
+    inl (asked _ _ (texts c.args.words.now) (command.Check a.source a.kind a.report) (s c.args.desk.now) (s c.check_file.new.desk) c.check_file.result
+    (names_on _ c.args.shelf) read.0 read.1 c.check_file.ensures.ran)
 
 pub returns-clause-usage : goal.returns-clause-usage
 returns-clause-usage g c =

@@ -27,7 +27,10 @@ returns-clause-ran g c =
     let right = kept_right _ kind X report v _ _ h.same_files j.judged.right in
     let old = s c.args.desk.now in
     let new = s c.write_verdict.new.desk in
-    cut_short _ _ old (s c.judge.new.desk) new (outcome_of v) (verdict_text v) (OnlyReads-more h j.only) (verdict_answers _ source kind report old.files X v c.in-Ok.ensures.opened right) w.text.err w.failed (took _ source kind report old (s c.open_picture.new.desk) (s c.judge.new.desk) new X h.same_files (w.only.same_left Report) c.in-Ok.ensures.opened j.judged.taken)
+    cut_short _ _ old (s c.judge.new.desk) new (outcome_of v) (verdict_text v) (OnlyReads-more h j.only)
+    (verdict_answers _ source kind report old.files X v c.in-Ok.ensures.opened right) w.text.err w.failed
+    (took _ source kind report old (s c.open_picture.new.desk) (s c.judge.new.desk) new X h.same_files (w.only.same_left Report) c.in-Ok.ensures.opened
+    j.judged.taken)
 
 pub returns-in-Ok-write_verdict-clause-ran : goal.returns-in-Ok-write_verdict-clause-ran
 returns-in-Ok-write_verdict-clause-ran g c =
@@ -43,4 +46,7 @@ returns-in-Ok-write_verdict-clause-ran g c =
     let right = kept_right _ kind X report v _ _ h.same_files j.judged.right in
     let old = s c.args.desk.now in
     let new = s c.write_verdict.new.desk in
-    answered _ (Asked.Check source kind report) old (s c.judge.new.desk) new v c.given.result c.given.ensures (OnlyReads-more h j.only) (verdict_answers _ source kind report old.files X v c.in-Ok.ensures.opened right) w.text.ok (took _ source kind report old (s c.open_picture.new.desk) (s c.judge.new.desk) new X h.same_files (w.only.same_left Report) c.in-Ok.ensures.opened j.judged.taken)
+    answered _ (Asked.Check source kind report) old (s c.judge.new.desk) new v c.given.result c.given.ensures (OnlyReads-more h j.only)
+    (verdict_answers _ source kind report old.files X v c.in-Ok.ensures.opened right) w.text.ok
+    (took _ source kind report old (s c.open_picture.new.desk) (s c.judge.new.desk) new X h.same_files (w.only.same_left Report) c.in-Ok.ensures.opened
+    j.judged.taken)

@@ -9,7 +9,8 @@ returns-clause-judged g c =
     let s = g.D.Desk.state in
     let b = c.in_ok-begin.ensures.answer in
     let X = picture_of c.args.image.now in
-    judged _ (read_report_kind c.args.kind) X c.args.report.now (s c.args.desk.now) (s c.begin.new.self) (s c.check_image.new.desk) c.check_image.result b.at_front b.only.later (c.shows.ensures _ X) c.check_image.ensures.checked
+    judged _ (read_report_kind c.args.kind) X c.args.report.now (s c.args.desk.now) (s c.begin.new.self) (s c.check_image.new.desk) c.check_image.result
+    b.at_front b.only.later (c.shows.ensures _ X) c.check_image.ensures.checked
 
 pub returns-in_err-begin-clause-judged : goal.returns-in_err-begin-clause-judged
 returns-in_err-begin-clause-judged g c =

@@ -14,4 +14,6 @@ neighbour-requires c =
 
 pub neighbour-across-requires : goal.neighbour-across-requires
 neighbour-across-requires c =
-    room_beside c.args.c.p c.neighbour.result (object_within (pos GREATEST_SIDE) c.args.grid.now c.args.c.p c.is_picture.ensures.in_range (omega (arith, ints)) c.requires.pixel) c.neighbour.ensures.x_near c.neighbour.ensures.y_near
+    room_beside c.args.c.p c.neighbour.result
+    (object_within (pos GREATEST_SIDE) c.args.grid.now c.args.c.p c.is_picture.ensures.in_range (omega (arith, ints)) c.requires.pixel)
+    c.neighbour.ensures.x_near c.neighbour.ensures.y_near

@@ -51,21 +51,27 @@ loop-i-preserved c =
     let upper : Listing X (i * 4 + 1) (is_marked c.if-is_top.marks) c.if-is_top.list.items = elim c.if-is_top.branch [
       | then-is_top+in_ok-take w ↦
           rw (w.marks-is, w.list-is)
-          (listing_taken X axes i 0 (i * 4) l (omega arith) (omega arith) (is_marked c.loop-i.marks) c.loop-i.list.items found (is_marked w.take.new.marks) w.take.new.list.items refl (c.is_top.ensures.0 w.if-is_top.true) w.in_ok-take.ensures.taken)
+          (listing_taken X axes i 0 (i * 4) l (omega arith) (omega arith) (is_marked c.loop-i.marks) c.loop-i.list.items found (is_marked w.take.new.marks)
+          w.take.new.list.items refl (c.is_top.ensures.0 w.if-is_top.true) w.in_ok-take.ensures.taken)
       | else-is_top w ↦
           rw (w.marks-is, w.list-is)
-          (listing_no_crack X axes i 0 (i * 4) l (omega arith) (omega arith) (is_marked c.loop-i.marks) c.loop-i.list.items found (λ k. let t = c.is_top.ensures.1 k in let f = w.if-is_top.false in cc))
+          (listing_no_crack X axes i 0 (i * 4) l (omega arith) (omega arith) (is_marked c.loop-i.marks) c.loop-i.list.items found
+          (λ k. let t = c.is_top.ensures.1 k in let f = w.if-is_top.false in cc))
     ] in
     let right = listing_passed X axes i 1 (i * 4 + 1) l (omega arith) (omega arith) (is_marked c.if-is_top.marks) c.if-is_top.list.items upper (inl refl) in
     let lower : Listing X (i * 4 + 1 + 1 + 1) (is_marked c.if-is_bottom.marks) c.if-is_bottom.list.items = elim c.if-is_bottom.branch [
       | then-is_bottom+in_ok-take-2 w ↦
           rw (w.marks-is, w.list-is)
-          (listing_taken X axes i 2 (i * 4 + 1 + 1) l (omega arith) (omega arith) (is_marked c.if-is_top.marks) c.if-is_top.list.items right (is_marked w.take-then-is_bottom.new.marks) w.take-then-is_bottom.new.list.items refl (c.is_bottom.ensures.0 w.if-is_bottom.true) w.in_ok-take-2.ensures.taken)
+          (listing_taken X axes i 2 (i * 4 + 1 + 1) l (omega arith) (omega arith) (is_marked c.if-is_top.marks) c.if-is_top.list.items right
+          (is_marked w.take-then-is_bottom.new.marks) w.take-then-is_bottom.new.list.items refl (c.is_bottom.ensures.0 w.if-is_bottom.true)
+          w.in_ok-take-2.ensures.taken)
       | else-is_bottom w ↦
           rw (w.marks-is, w.list-is)
-          (listing_no_crack X axes i 2 (i * 4 + 1 + 1) l (omega arith) (omega arith) (is_marked c.if-is_top.marks) c.if-is_top.list.items right (λ k. let t = c.is_bottom.ensures.1 k in let f = w.if-is_bottom.false in cc))
+          (listing_no_crack X axes i 2 (i * 4 + 1 + 1) l (omega arith) (omega arith) (is_marked c.if-is_top.marks) c.if-is_top.list.items right
+          (λ k. let t = c.is_bottom.ensures.1 k in let f = w.if-is_bottom.false in cc))
     ] in
-    let left = listing_passed X axes i 3 (i * 4 + 1 + 1 + 1) l (omega arith) (omega arith) (is_marked c.if-is_bottom.marks) c.if-is_bottom.list.items lower (inr refl) in
+    let left = listing_passed X axes i 3 (i * 4 + 1 + 1 + 1) l (omega arith) (omega arith) (is_marked c.if-is_bottom.marks) c.if-is_bottom.list.items lower
+    (inr refl) in
     let next : i * 4 + 1 + 1 + 1 + 1 ≡ (i + 1) * 4 = omega arith in
     let above : length c.if-is_top.marks.upper ≡ c.count-count.result = elim c.if-is_top.branch [
       | then-is_top+in_ok-take w ↦ rw w.marks-is (w.take.ensures.room ∙ c.loop-i.invariant.room)

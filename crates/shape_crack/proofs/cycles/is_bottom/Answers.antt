@@ -13,8 +13,10 @@ returns-then-below-count c =
     let X = c.args.grid.now in
     let w = nat_abs (to_z w32 (of_z w32 c.side.result)) in
     let f : FitsSigned w32 c.side.result = search rules in
-    let e = ap (λ (x : ℕ). x ∷ nat_abs c.sides-sides.result.lengths.y ∷ []) (ap nat_abs (to_z-of_z w32 c.side.result f ∙ c.side.ensures.value)) ∙ c.sides-sides.ensures.value in
-    let none = under_none X w (nat_abs c.sides-sides.result.lengths.y) e c.args.i c.requires.pixel (let n = c.count.ensures.value ∙ ap box_count c.sides-sides.ensures.value in let t = c.if-below-count.true in omega arith) in
+    let e = ap (λ (x : ℕ). x ∷ nat_abs c.sides-sides.result.lengths.y ∷ []) (ap nat_abs (to_z-of_z w32 c.side.result f ∙ c.side.ensures.value))
+    ∙ c.sides-sides.ensures.value in
+    let none = under_none X w (nat_abs c.sides-sides.result.lengths.y) e c.args.i c.requires.pixel
+    (let n = c.count.ensures.value ∙ ap box_count c.sides-sides.ensures.value in let t = c.if-below-count.true in omega arith) in
     crack_when X (side_of X.sides c.args.i 2) _ (omega arith) c.requires.object (le-leb c.count.result (c.args.i + w) c.if-below-count.true ∙ sym (ap not none))
 
 pub returns-else-below-count : goal.returns-else-below-count
@@ -22,6 +24,8 @@ returns-else-below-count c =
     let X = c.args.grid.now in
     let w = nat_abs (to_z w32 (of_z w32 c.side.result)) in
     let f : FitsSigned w32 c.side.result = search rules in
-    let e = ap (λ (x : ℕ). x ∷ nat_abs c.sides-sides.result.lengths.y ∷ []) (ap nat_abs (to_z-of_z w32 c.side.result f ∙ c.side.ensures.value)) ∙ c.sides-sides.ensures.value in
-    let next = under_number X w (nat_abs c.sides-sides.result.lengths.y) e c.args.i c.requires.pixel (let n = c.count.ensures.value ∙ ap box_count c.sides-sides.ensures.value in let t = c.if-below-count.false in omega arith) in
+    let e = ap (λ (x : ℕ). x ∷ nat_abs c.sides-sides.result.lengths.y ∷ []) (ap nat_abs (to_z-of_z w32 c.side.result f ∙ c.side.ensures.value))
+    ∙ c.sides-sides.ensures.value in
+    let next = under_number X w (nat_abs c.sides-sides.result.lengths.y) e c.args.i c.requires.pixel
+    (let n = c.count.ensures.value ∙ ap box_count c.sides-sides.ensures.value in let t = c.if-below-count.false in omega arith) in
     crack_when X (side_of X.sides c.args.i 2) _ (omega arith) c.requires.object (ap not (c.has_number.ensures ∙ ap (at X) (sym next)))

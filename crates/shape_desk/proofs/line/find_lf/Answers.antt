@@ -5,7 +5,8 @@ use Rattle.shape_desk.proofs.line.find_lf.Goals as goal
 
 pub overflow_add-result : goal.overflow_add-result
 overflow_add-result c =
-    let l : c.args.from + c.in-Some.k < c.args.to = (first_lf c.args.bytes.now c.args.from c.args.to c.in-Some.k c.requires.order c.requires.within c.requires.none c.in-Some.ensures).0 in
+    let l : c.args.from + c.in-Some.k < c.args.to =
+    (first_lf c.args.bytes.now c.args.from c.args.to c.in-Some.k c.requires.order c.requires.within c.requires.none c.in-Some.ensures).0 in
     Fits-le (omega arith) c.ranges.to
 
 pub returns-in-Some : goal.returns-in-Some

@@ -15,7 +15,8 @@ returns-then-not-is_ascii_digit-clause-value c =
 pub loop-i-preserved : goal.loop-i-preserved
 loop-i-preserved c =
     let l : c.loop-i.i < length c.args.bytes.now = omega arith in
-    run_more c.args.bytes.now c.loop-i.i c.loop-i.value c.next_value-value.result l (sym c.is_ascii_digit.ensures.value ∙ c.if-not-is_ascii_digit.false) c.next_value-value.ensures.next c.next_value-value.ensures.great c.loop-i.invariant
+    run_more c.args.bytes.now c.loop-i.i c.loop-i.value c.next_value-value.result l (sym c.is_ascii_digit.ensures.value ∙ c.if-not-is_ascii_digit.false)
+    c.next_value-value.ensures.next c.next_value-value.ensures.great c.loop-i.invariant
 
 pub loop-i-init : goal.loop-i-init
 loop-i-init c = rw c.from-value.ensures (run_begun c.args.bytes.now c.requires)

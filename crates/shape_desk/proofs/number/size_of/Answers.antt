@@ -20,10 +20,12 @@ returns-then-run-greatest c =
       c.if-run-greatest.true,
       record {
         fits = fits;
-        spelling = spells_size (take_while is_ascii_digit bs) run.result.value (AllDigits-take_while bs) (c.has_no_leading_zero.ensures.0 c.if-not-has_no_leading_zero.false) fits run.ensures.value;
+        spelling = spells_size (take_while is_ascii_digit bs) run.result.value (AllDigits-take_while bs)
+            (c.has_no_leading_zero.ensures.0 c.if-not-has_no_leading_zero.false) fits run.ensures.value;
         all = run.ensures.len;
       },
     )
 
 pub returns-else-run-greatest : goal.returns-else-run-greatest
-returns-else-run-greatest c = none_above (take_while is_ascii_digit c.args.bytes.now) c.run_of-run.result.value c.args.greatest c.requires c.if-run-greatest.false c.run_of-run.ensures.value
+returns-else-run-greatest c = none_above (take_while is_ascii_digit c.args.bytes.now) c.run_of-run.result.value c.args.greatest c.requires
+    c.if-run-greatest.false c.run_of-run.ensures.value

@@ -6,4 +6,5 @@ pub returns-clause-rest : goal.returns-clause-rest
 returns-clause-rest c =
     let at = c.args.at in
     let n = length c.args.word.now in
-    drop-put_mid at (at + n - at) c.args.buf.now c.copy_from_slice.new.self (at + n) (omega arith) (omega (arith, c.requires)) (omega (arith, c.copy_from_slice.ensures.len, c.copy_from_slice.auto.self))
+    drop-put_mid at (at + n - at) c.args.buf.now c.copy_from_slice.new.self (at + n) (omega arith) (omega (arith, c.requires))
+    (omega (arith, c.copy_from_slice.ensures.len, c.copy_from_slice.auto.self))

@@ -7,8 +7,9 @@ use Rattle.shape_terms.specs.FramedBox.{framed_sides, framed_point}
 use Rattle.shape_terms.specs.Places.{framed_number}
 use Rattle.shape_terms.proofs.FramedNumbers.{framed_number_below}
 use Rattle.shape_terms.proofs.FramedEnds.{in_box_in_frame}
+use Rattle.shape_dist.specs.Keepings.{point_keeping}
 use Rattle.shape_dist.specs.Spreads.{found, nothing, IsNearestOn}
-use Rattle.shape_dist.proofs.AxisEnds.{nearest_of_all, cell_of}
+use Rattle.shape_dist.proofs.AxisEnds.{point_of_all, cell_of}
 use Rattle.shape_dist.proofs.transform.found_at.Goals as goal
 
 pub unraster-requires : goal.unraster-requires
@@ -33,8 +34,8 @@ returns g c =
     let inside : IsTrue (in_box X.sides p) = rw (← c.sides-sides.ensures.value) c.unraster.ensures.inside in
     let is : p ≡ raster_point X.sides c.args.i = c.unraster.ensures.value ∙ ap (λ s. raster_point s c.args.i) c.sides-sides.ensures.value in
     let i : c.framed_number.result ≡ framed_number X.sides p = c.framed_number.ensures ∙ ap (λ s. framed_number s p) c.sides-sides.ensures.value in
-    let here : found c.args.cells.now.values c.framed_number.result ≡ f =
-    get_or_from_slice_get c.args.cells.now.values c.framed_number.result f nothing c.get.ensures in
-    let near = cell_of X p c.args.cells.now.values c.framed_number.result inside i c.requires.near in
-    let least = nearest_of_all X p f inside (subst (IsNearestOn X (box_count (framed_sides X.sides)) (framed_number X.sides p)) here near) in
+    let here : found point_keeping c.args.cells.now.values c.framed_number.result ≡ f =
+    get_or_from_slice_get c.args.cells.now.values c.framed_number.result f (nothing point_keeping) c.get.ensures in
+    let near = cell_of point_keeping X p c.args.cells.now.values c.framed_number.result inside i c.requires.near in
+    let least = point_of_all X p f inside (subst (IsNearestOn point_keeping X (box_count (framed_sides X.sides)) (framed_number X.sides p)) here near) in
     subst (λ p. Least X p (framed_point X.sides f.q) f.s) is least

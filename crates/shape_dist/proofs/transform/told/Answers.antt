@@ -1,8 +1,6 @@
-use Rattle.std.proofs.Common.{◌≡◌, ◌∙◌, ◌∷◌, [], ◌++◌, ℕ, false, length, get_or, map, ap, sym, subst, arith}
+use Rattle.std.proofs.Common.{◌∙◌, ◌∷◌, [], ℕ, false, length, get_or, ap, arith}
 use Rattle.std.proofs.lemmas.List.{map-append}
 use Rattle.shape_terms.specs.FramedBox.{framed_point}
-use Rattle.shape_terms.specs.Points.{raster_point}
-use Rattle.shape_terms.proofs.BoxLists.{few_objects}
 use Rattle.shape_terms.proofs.NextObjects.{next_object}
 use Rattle.shape_terms.proofs.DistanceLists.{none_yet, distances_more, distances_all}
 use Rattle.shape_cells.specs.Held.{Held, HasCell}

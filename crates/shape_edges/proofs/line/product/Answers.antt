@@ -10,7 +10,8 @@ pub returns : goal.returns
 returns c =
     let f = c.ranges.a in
     let g = c.ranges.x in
-    let q : FitsSigned w64 (c.args.a *ℤ c.args.x) = fits_signed_mul w64 c.args.a c.args.x (2 * line_gap) most_flat c.requires.a_small c.requires.x_small (lit< tt) in
+    let q : FitsSigned w64 (c.args.a *ℤ c.args.x) = fits_signed_mul w64 c.args.a c.args.x (2 * line_gap) most_flat c.requires.a_small c.requires.x_small
+    (lit< tt) in
     let m = mul-le (unsigned_abs c.args.a) (unsigned_abs c.args.x) (2 * line_gap) most_flat c.requires.a_small c.requires.x_small in
     let e = unsigned_abs-mul c.args.a c.args.x in
     record { value = simp to_z-of_z; small = simp to_z-of_z (omega (arith, e, m)) }

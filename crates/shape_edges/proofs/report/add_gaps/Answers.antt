@@ -12,7 +12,8 @@ add-requires c =
     let j = c.loop-j.j in
     let l : j < length f.arcs = omega (arith, c.loop-j.auto.j-end, c.len-j-end.ensures, c.loop-j-test.true) in
     let cover = c.requires.1 in
-    subst (λ e. spelled.IsLine (Line.Gap e)) (sym c.gap.ensures) (gap_fits (gap_run c.requires.0 (stretches_of f.arcs) j) (arc_in f.arcs j).gap (cover.claims.gap j l) (cover.gaps j l))
+    subst (λ e. spelled.IsLine (Line.Gap e)) (sym c.gap.ensures)
+    (gap_fits (gap_run c.requires.0 (stretches_of f.arcs) j) (arc_in f.arcs j).gap (cover.claims.gap j l) (cover.gaps j l))
 
 pub loop-j-preserved : goal.loop-j-preserved
 loop-j-preserved c =

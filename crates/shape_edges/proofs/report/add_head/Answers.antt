@@ -11,4 +11,5 @@ returns c =
     let n = c.steps.result in
     let m = c.len.result in
     let fields : spelled.IsLine (Line.Cycle start n m) = search rules in
-    λ X k at t. on_ok_weaker c.add.result (λ e. cycle_told X k start c.args.cover.now at c.args.report.now c.add.new.self n m c.steps.ensures c.len.ensures t fields e) c.add.ensures.ok
+    λ X k at t. on_ok_weaker c.add.result
+    (λ e. cycle_told X k start c.args.cover.now at c.args.report.now c.add.new.self n m c.steps.ensures c.len.ensures t fields e) c.add.ensures.ok

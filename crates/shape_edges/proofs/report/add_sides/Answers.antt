@@ -8,4 +8,6 @@ pub returns : goal.returns
 returns c =
     let sides = c.flat_sides-sides.result in
     let fields : spelled.IsLine (Line.Edges sides.width sides.height) = search rules in
-    on_ok_weaker c.add.result (λ e. sides_told c.args.grid.now sides.width sides.height c.args.report.now c.add.new.self c.flat_sides-sides.ensures c.requires fields e) c.add.ensures.ok
+    on_ok_weaker c.add.result
+    (λ e. sides_told c.args.grid.now sides.width sides.height c.args.report.now c.add.new.self c.flat_sides-sides.ensures c.requires fields e)
+    c.add.ensures.ok

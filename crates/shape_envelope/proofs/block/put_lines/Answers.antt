@@ -8,7 +8,8 @@ loop-y-preserved g c =
     let i = c.loop-y.invariant in
     let t = c.put_places.ensures in
     record {
-      put = lines_put a.start a.step a.side a.lines c.loop-y.y c.loop-y-test.true c.loop-y.cells c.put_places.new.cells a.block.now c.requires.apart i.put t.put t.others;
+      put = lines_put a.start a.step a.side a.lines c.loop-y.y c.loop-y-test.true c.loop-y.cells c.put_places.new.cells a.block.now c.requires.apart i.put t.put
+          t.others;
       others = lines_left a.start a.step a.side a.lines c.loop-y.y c.loop-y-test.true a.cells.now c.loop-y.cells c.put_places.new.cells i.others t.others;
     }
 

@@ -4,7 +4,8 @@ use Rattle.shape_envelope.proofs.block.take_places.Goals as goal
 
 pub offset_bounds-block-j : goal.offset_bounds-block-j
 offset_bounds-block-j g c =
-    let inside = line_in_block c.args.side c.args.lines (length c.loop-j.block) c.loop-j.j c.args.y (omega arith) c.requires.line (omega (arith, c.requires.room)) in
+    let inside = line_in_block c.args.side c.args.lines (length c.loop-j.block) c.loop-j.j c.args.y (omega arith) c.requires.line
+    (omega (arith, c.requires.room)) in
     search (rules, inside)
 
 pub loop-j-preserved : goal.loop-j-preserved

@@ -15,7 +15,8 @@ loop-x-preserved-then-k-gt0 c =
       there = omega arith;
       started = λ s. omega arith;
       ended = λ q. let e : k - 1 + 1 ≡ k = omega arith in rw e (omega arith);
-      written = written_more c.args.row.now c.args.places.now c.args.starts.now c.loop-x.out c.args.m k c.loop-x.x b i.there (omega arith) (omega arith) started i.ended (omega arith) i.written;
+      written = written_more c.args.row.now c.args.places.now c.args.starts.now c.loop-x.out c.args.m k c.loop-x.x b i.there (omega arith) (omega arith) started
+          i.ended (omega arith) i.written;
     }
 
 pub loop-x-preserved : goal.loop-x-preserved
@@ -34,5 +35,6 @@ loop-x-preserved c =
         | else-starts-k-via-else-starts-k w ↦ omega arith
       ];
       ended = λ q. omega (arith, i.ended q);
-      written = written_more c.args.row.now c.args.places.now c.args.starts.now c.loop-x.out c.args.m k c.loop-x.x b i.there (omega arith) (omega arith) started i.ended (omega arith) i.written;
+      written = written_more c.args.row.now c.args.places.now c.args.starts.now c.loop-x.out c.args.m k c.loop-x.x b i.there (omega arith) (omega arith) started
+          i.ended (omega arith) i.written;
     }

@@ -16,15 +16,18 @@ returns-then-x-starts-clause-settled g c =
     let x = c.first_better-x.result in
     let fits : FitsSigned w64 x = search rules in
     let w = c.within.ensures in
-    settled c.args.row.now c.args.places.now c.args.starts.now c.loop-kept.kept (c.loop-kept.kept - 1) c.args.j _ c.within.result x c.loop-kept.invariant.cut (omega arith) c.requires.filled c.first_better-x.ensures.first
-    (before _ x (c.type_inv.starts (c.loop-kept.kept - 1)) fits c.if-x-starts.true) (rw (to_z-of_z w64 x fits) at w.least) (omega arith) (λ l. rw (to_z-of_z w64 x fits) at (w.same (omega arith)))
+    settled c.args.row.now c.args.places.now c.args.starts.now c.loop-kept.kept (c.loop-kept.kept - 1) c.args.j _ c.within.result x c.loop-kept.invariant.cut
+    (omega arith) c.requires.filled c.first_better-x.ensures.first
+    (before _ x (c.type_inv.starts (c.loop-kept.kept - 1)) fits c.if-x-starts.true) (rw (to_z-of_z w64 x fits) at w.least) (omega arith)
+    (λ l. rw (to_z-of_z w64 x fits) at (w.same (omega arith)))
 
 pub loop-kept-preserved : goal.loop-kept-preserved
 loop-kept-preserved g c =
     let x = c.first_better-x.result in
     let fits : FitsSigned w64 x = search rules in
     record {
-      cut = cut_more c.args.row.now c.args.places.now c.args.starts.now c.loop-kept.kept (c.loop-kept.kept - 1) c.args.j _ x c.loop-kept.invariant.cut (omega arith) c.first_better-x.ensures.first (behind _ x (c.type_inv.starts (c.loop-kept.kept - 1)) fits c.if-x-starts.false);
+      cut = cut_more c.args.row.now c.args.places.now c.args.starts.now c.loop-kept.kept (c.loop-kept.kept - 1) c.args.j _ x c.loop-kept.invariant.cut
+          (omega arith) c.first_better-x.ensures.first (behind _ x (c.type_inv.starts (c.loop-kept.kept - 1)) fits c.if-x-starts.false);
       fewer = omega arith;
       count = omega arith;
     }

@@ -14,4 +14,5 @@ returns c =
     let v = simp to_z-of_z at c.signed.ensures.value in
     let s = simp to_z-of_z at c.signed.ensures.small in
     let e = simp to_z-of_z at c.coefficients.ensures in
-    frame_line c.args.axis c.args.sense c.args.a c.args.b c.args.mu c.signed.result _ c.requires.axis c.requires.sense c.requires.a_small c.requires.b_small c.requires.mu_small v s refl e (to_z-of_z _ c.args.mu f4)
+    frame_line c.args.axis c.args.sense c.args.a c.args.b c.args.mu c.signed.result _ c.requires.axis c.requires.sense c.requires.a_small c.requires.b_small
+    c.requires.mu_small v s refl e (to_z-of_z _ c.args.mu f4)

@@ -13,4 +13,5 @@ returns-clause-value c =
     let f = other_fits c.args.axis c.args.sense c.args.line.now c.requires.axis c.requires.plane in
     let s = c.ranges.sense in
     let r : FitsSigned w64 c.signed.result = search rules in
-    simp to_z-of_z (other_side c.args.axis c.args.sense c.args.line.now c.requires.axis c.requires.plane c.signed.result (simp to_z-of_z at c.signed.ensures.value))
+    simp to_z-of_z (other_side c.args.axis c.args.sense c.args.line.now c.requires.axis c.requires.plane c.signed.result
+    (simp to_z-of_z at c.signed.ensures.value))

@@ -9,7 +9,8 @@ use Rattle.shape_picture.proofs.pbm.read_raster.Given as goal
 
 abbrev pub invariant-loop-at : goal.invariant-loop-at
 invariant-loop-at g l =
-    ((all : Option (List ℕ)) → FrontTaken (PictureSoFar most_flat l.fn.grid false 0) most_bytes l.fn.from all ((g.D.Desk.state l.initial.desk).left Picture) l.initial.bytes
+    ((all : Option (List ℕ)) → FrontTaken (PictureSoFar most_flat l.fn.grid false 0) most_bytes l.fn.from all ((g.D.Desk.state l.initial.desk).left Picture)
+    l.initial.bytes
     → FrontTaken (PictureSoFar most_flat l.grid l.comment l.count) most_bytes l.at all ((g.D.Desk.state l.desk).left Picture) l.bytes)
     × (l.grid.sides ≡ l.fn.grid.sides)
     × (l.total ≡ box_count l.fn.grid.sides)

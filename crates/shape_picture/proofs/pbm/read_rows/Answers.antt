@@ -26,7 +26,8 @@ put_bits-requires-clause-room g c =
     let w = c.args.heading.width in
     let h = c.args.heading.height in
     let b : box_count c.loop-at.grid.sides ≡ w * h = ap box_count (c.loop-at.invariant.1 ∙ c.requires.sides) ∙ times_one w h in
-    let r : c.loop-at.count + byte_pixels w c.loop-at.count ≤ w * h = room_left w h c.loop-at.count c.requires.some_width (omega (arith, c.loop-at.invariant.2, c.loop-at.invariant.3)) in
+    let r : c.loop-at.count + byte_pixels w c.loop-at.count ≤ w * h = room_left w h c.loop-at.count c.requires.some_width
+    (omega (arith, c.loop-at.invariant.2, c.loop-at.invariant.3)) in
     rw (b, (c.pixels_ahead-pixels.ensures c.loop-at.count c.loop-at.invariant.5)) r
 
 pub returns-then-count-total-clause-answer : goal.returns-then-count-total-clause-answer
@@ -36,19 +37,24 @@ returns-then-count-total-clause-answer g c = λ all h.
     let t = c.in_ok-c.ensures.answer all r.front r.taken (rows_unfinished most_flat p) in
     let s = same_sides p (c.loop-at.invariant.1 ∙ c.requires.sides) in
     let count = (c.pixels_ahead-pixels.ensures c.loop-at.count c.loop-at.invariant.5) ∙ ap (λ (w : ℕ). byte_pixels w c.loop-at.count) (sym s.0) in
-    let n : c.loop-at.count + c.pixels_ahead-pixels.result ≡ number_value p.width * number_value p.height = c.if-count-total.true ∙ c.loop-at.invariant.2 ∙ sym s.1 in
+    let n : c.loop-at.count + c.pixels_ahead-pixels.result ≡ number_value p.width * number_value p.height = c.if-count-total.true ∙ c.loop-at.invariant.2
+    ∙ sym s.1 in
     let few : length r.front < most_bytes = omega (arith, r.taken.many, c.loop-at-test.true) in
     let known = flat_map (row_pixels (number_value p.width)) p.rows ++ flat_map bits_of p.row in
     let v = c.put_bits.ensures.values known (number_value p.width * number_value p.height) p.first.count (omega (arith, n)) p.first.values in
-    picture_last most_flat most_bytes (c.loop-at.at + 1) all ((g.D.Desk.state c.next_byte.new.desk).left Picture) c.next_byte.new.bytes (r.front ++ c.in_ok-c.c ∷ []) c.put_bits.new.grid
-    (λ rest. rw (length_push r.front c.in_ok-c.c) (rows_spelled most_flat c.loop-at.grid c.put_bits.new.grid c.loop-at.count c.pixels_ahead-pixels.result r.front c.in_ok-c.c p count most_bytes rest c.put_bits.ensures.sides v n few)) t
+    picture_last most_flat most_bytes (c.loop-at.at + 1) all ((g.D.Desk.state c.next_byte.new.desk).left Picture) c.next_byte.new.bytes
+    (r.front ++ c.in_ok-c.c ∷ []) c.put_bits.new.grid
+    (λ rest. rw (length_push r.front c.in_ok-c.c)
+    (rows_spelled most_flat c.loop-at.grid c.put_bits.new.grid c.loop-at.count c.pixels_ahead-pixels.result r.front c.in_ok-c.c p count most_bytes rest
+    c.put_bits.ensures.sides v n few)) t
 
 pub loop-at-preserved : goal.loop-at-preserved
 loop-at-preserved g c =
     let w = c.args.heading.width in
     let k = c.args.heading.height in
     let total : c.count-total.result ≡ w * k = c.loop-at.invariant.2 in
-    let room : c.loop-at.count + byte_pixels w c.loop-at.count ≤ w * k = room_left w k c.loop-at.count c.requires.some_width (omega (arith, c.loop-at.invariant.3, total)) in
+    let room : c.loop-at.count + byte_pixels w c.loop-at.count ≤ w * k = room_left w k c.loop-at.count c.requires.some_width
+    (omega (arith, c.loop-at.invariant.3, total)) in
     let within : c.loop-at.count + c.pixels_ahead-pixels.result ≤ w * k = rw (c.pixels_ahead-pixels.ensures c.loop-at.count c.loop-at.invariant.5) room in
     let less : c.loop-at.count + c.pixels_ahead-pixels.result < c.count-total.result = omega (arith, within, total, c.if-count-total.false) in (
       λ all h.
@@ -60,7 +66,12 @@ loop-at-preserved g c =
           let n : c.loop-at.count + c.pixels_ahead-pixels.result < number_value p.width * number_value p.height = omega (arith, s.1, total, less) in
           let known = flat_map (row_pixels (number_value p.width)) p.rows ++ flat_map bits_of p.row in
           let v = c.put_bits.ensures.values known (number_value p.width * number_value p.height) p.first.count (omega (arith, n)) p.first.values in
-          record { front = _; known = rows_next most_flat c.loop-at.grid c.put_bits.new.grid c.loop-at.count c.pixels_ahead-pixels.result r.front c.in_ok-c.c p count c.put_bits.ensures.sides v n; taken = t },
+          record {
+            front = _;
+            known = rows_next most_flat c.loop-at.grid c.put_bits.new.grid c.loop-at.count c.pixels_ahead-pixels.result r.front c.in_ok-c.c p
+                count c.put_bits.ensures.sides v n;
+            taken = t;
+          },
       c.put_bits.ensures.sides ∙ c.loop-at.invariant.1,
       c.loop-at.invariant.2,
       less,
@@ -71,4 +82,6 @@ loop-at-preserved g c =
 pub returns-clause-answer : goal.returns-clause-answer
 returns-clause-answer g c = λ all h.
     let r = c.loop-at.invariant.0 all h in
-    stops_long most_flat most_bytes c.loop-at.at all ((g.D.Desk.state c.loop-at.desk).left Picture) c.loop-at.bytes r.front (g.D.Desk.state c.args.desk.now).read_faults (g.D.Desk.state c.loop-at.desk).read_faults r.taken c.loop-at-test.false (rows_unfinished most_flat r.known)
+    stops_long most_flat most_bytes c.loop-at.at all ((g.D.Desk.state c.loop-at.desk).left Picture) c.loop-at.bytes r.front
+    (g.D.Desk.state c.args.desk.now).read_faults (g.D.Desk.state c.loop-at.desk).read_faults r.taken c.loop-at-test.false
+    (rows_unfinished most_flat r.known)

@@ -8,7 +8,8 @@ use Rattle.shape_picture.proofs.pbm.read_rows.Given as goal
 
 abbrev pub invariant-loop-at : goal.invariant-loop-at
 invariant-loop-at g l =
-    ((all : Option (List ℕ)) → FrontTaken (RowsSoFar most_flat l.fn.grid 0) most_bytes l.fn.heading.at all ((g.D.Desk.state l.initial.desk).left Picture) l.initial.bytes
+    ((all : Option (List ℕ)) → FrontTaken (RowsSoFar most_flat l.fn.grid 0) most_bytes l.fn.heading.at all ((g.D.Desk.state l.initial.desk).left Picture)
+    l.initial.bytes
     → FrontTaken (RowsSoFar most_flat l.grid l.count) most_bytes l.at all ((g.D.Desk.state l.desk).left Picture) l.bytes)
     × (l.grid.sides ≡ l.fn.grid.sides)
     × (l.total ≡ l.fn.heading.width * l.fn.heading.height)

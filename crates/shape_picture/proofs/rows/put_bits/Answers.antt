@@ -9,7 +9,8 @@ loop-place-preserved g c = (
   λ known total k l e.
       let v = c.loop-place.invariant.1 known total k l e in
       c.put.ensures.values ∙ ap (λ b. put_value c.loop-place.grid.values (c.args.from + c.loop-place.place) b) c.bit.ensures
-      ∙ value_next known (bits_of c.args.c) c.loop-place.grid.values c.args.from c.loop-place.place total v k (omega (arith, c.requires.few, c.loop-place-test.true)) (omega (arith, l, c.loop-place-test.true)),
+      ∙ value_next known (bits_of c.args.c) c.loop-place.grid.values c.args.from c.loop-place.place total v k
+      (omega (arith, c.requires.few, c.loop-place-test.true)) (omega (arith, l, c.loop-place-test.true)),
 )
 
 pub returns-then-c-eq0-clause-values : goal.returns-then-c-eq0-clause-values

@@ -17,4 +17,5 @@ returns c =
     λ X k at h.
     let contour = c.args.contour.now in
     let begun = chain_put X k contour at pieces are start n m c.args.report.now c.start.ensures c.len.ensures.value c.len-2.ensures h fields in
-    split_put X k contour at pieces are c.add_pieces.new.report (c.in_ok-add_pieces.ensures X k contour at are (subst (HasPieces X k pieces 0) (sym c.in_ok-add.ensures.ok) begun))
+    split_put X k contour at pieces are c.add_pieces.new.report
+    (c.in_ok-add_pieces.ensures X k contour at are (subst (HasPieces X k pieces 0) (sym c.in_ok-add.ensures.ok) begun))

@@ -3,7 +3,8 @@ use Rattle.shape_pieces.specs.Growing.{HasSplits}
 use Rattle.shape_pieces.proofs.report.add_splits.Goals as goal
 
 pub loop-k-preserved : goal.loop-k-preserved
-loop-k-preserved c = λ X are h. c.in_ok-add_split.ensures X c.loop-k.k (record { contours = c.args.contours.now; are = are; there = c.contour.ensures }) (c.loop-k.invariant X are h)
+loop-k-preserved c = λ X are h. c.in_ok-add_split.ensures X c.loop-k.k (record { contours = c.args.contours.now; are = are; there = c.contour.ensures })
+    (c.loop-k.invariant X are h)
 
 pub returns : goal.returns
 returns c =

@@ -22,4 +22,5 @@ returns c =
     let fields : spelled.IsLine (Line.Pieces sides) = search rules in
     let new = c.in_ok-add.ensures.ok ∙ ap (λ t. t ++ line_text spelled (Line.Pieces sides)) c.new-report.ensures in
     let begun = subst (HasSplits X 0) (sym new) (heading_put X sides given fields) in
-    subst (Holds (piece_report X)) (sym c.in_ok-add-2.ensures.ok) (end_put X c.in_ok-contours.contours c.add_splits.new.report are (c.in_ok-add_splits.ensures X are begun))
+    subst (Holds (piece_report X)) (sym c.in_ok-add-2.ensures.ok)
+    (end_put X c.in_ok-contours.contours c.add_splits.new.report are (c.in_ok-add_splits.ensures X are begun))

@@ -26,11 +26,13 @@ pub returns-clause-value : goal.returns-clause-value
 returns-clause-value c =
     let a = c.args.a in
     let x = c.args.x in
-    rw (parts a x c.ranges.a c.ranges.x c.requires.a_small c.requires.x_small) (to_z-of_z w64 (a *ℤ x) (fits a x c.ranges.a c.ranges.x c.requires.a_small c.requires.x_small))
+    rw (parts a x c.ranges.a c.ranges.x c.requires.a_small c.requires.x_small)
+    (to_z-of_z w64 (a *ℤ x) (fits a x c.ranges.a c.ranges.x c.requires.a_small c.requires.x_small))
 
 pub returns-clause-small : goal.returns-clause-small
 returns-clause-small c =
     let a = c.args.a in
     let x = c.args.x in
     let f = fits a x c.ranges.a c.ranges.x c.requires.a_small c.requires.x_small in
-    rw (parts a x c.ranges.a c.ranges.x c.requires.a_small c.requires.x_small, to_z-of_z w64 (a *ℤ x) f) (size a x c.ranges.a c.ranges.x c.requires.a_small c.requires.x_small)
+    rw (parts a x c.ranges.a c.ranges.x c.requires.a_small c.requires.x_small, to_z-of_z w64 (a *ℤ x) f)
+    (size a x c.ranges.a c.ranges.x c.requires.a_small c.requires.x_small)

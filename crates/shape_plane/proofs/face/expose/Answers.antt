@@ -15,7 +15,9 @@ returns-then-has_number-2 g c =
 pub returns-else-has_number : goal.returns-else-has_number
 returns-else-has_number g c = elim c.else-has_number.branch [
   | else-has_number-via-then-has_number+else-has_number-2 w ↦
-      exposed_kept g.P.Point.DIM c.args.grid.now c.args.i c.args.j c.args.left.now w.has_number-then-has_number.result c.requires.point w.has_number-then-has_number.ensures w.if-has_number-2.false
+      exposed_kept g.P.Point.DIM c.args.grid.now c.args.i c.args.j c.args.left.now w.has_number-then-has_number.result c.requires.point
+      w.has_number-then-has_number.ensures w.if-has_number-2.false
   | else-has_number-via-else-has_number w ↦
-      exposed_empty g.P.Point.DIM c.args.grid.now c.args.i c.args.j c.args.left.now c.has_number.result c.requires.point c.has_number.ensures w.if-has_number.false
+      exposed_empty g.P.Point.DIM c.args.grid.now c.args.i c.args.j c.args.left.now c.has_number.result c.requires.point c.has_number.ensures
+      w.if-has_number.false
 ]

@@ -10,7 +10,9 @@ pub expose-requires-clause-sides : goal.expose-requires-clause-sides
 expose-requires-clause-sides g c = c.loop-k.invariant.sides c.requires.sides
 
 pub loop-k-preserved : goal.loop-k-preserved
-loop-k-preserved g c = exposed_more g.P.Point.DIM c.args.grid.now c.args.first c.args.other c.loop-k.k c.args.left.now c.loop-k.left c.expose.new.left c.loop-k.invariant c.expose.ensures
+loop-k-preserved g c = exposed_more g.P.Point.DIM c.args.grid.now c.args.first c.args.other c.loop-k.k c.args.left.now c.loop-k.left c.expose.new.left
+    c.loop-k.invariant c.expose.ensures
 
 pub returns : goal.returns
-returns g c = subst (λ (k : ℕ). HasExposed g.P.Point.DIM c.args.grid.now c.args.first c.args.other k c.args.left.now c.loop-k.left) (omega arith) c.loop-k.invariant
+returns g c = subst (λ (k : ℕ). HasExposed g.P.Point.DIM c.args.grid.now c.args.first c.args.other k c.args.left.now c.loop-k.left) (omega arith)
+    c.loop-k.invariant

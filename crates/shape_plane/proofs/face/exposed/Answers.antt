@@ -24,7 +24,8 @@ expose_block-requires-clause-below g c =
 
 pub loop-number-preserved : goal.loop-number-preserved
 loop-number-preserved g c =
-    let e : c.gap_on-block.result * c.loop-number.number + c.gap_on-block.result ≡ c.gap_on-block.result * (c.loop-number.number + 1) = omega (arith, mul_comm c.gap_on-block.result c.loop-number.number, mul_comm c.gap_on-block.result (c.loop-number.number + 1)) in
+    let e : c.gap_on-block.result * c.loop-number.number + c.gap_on-block.result ≡ c.gap_on-block.result * (c.loop-number.number + 1) =
+    omega (arith, mul_comm c.gap_on-block.result c.loop-number.number, mul_comm c.gap_on-block.result (c.loop-number.number + 1)) in
     subst (λ (n : ℕ). IsExposing g.P.Point.DIM c.args.grid.now c.args.axis (sense_of c.args.sense) n c.expose_block.new.left) e c.expose_block.ensures
 
 pub returns : goal.returns

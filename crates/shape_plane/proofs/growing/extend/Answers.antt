@@ -1,6 +1,7 @@
 use Rattle.std.proofs.Common.{sym, refl, length, map, ◌∙◌}
 use Rattle.shape_plane.proofs.Deciding.{rows_pushed}
-use Rattle.shape_plane.proofs.Extending.{some_pushed, few_pushed, pair_pushed, inside_pushed, flat_extended, refused_extended, err_extended, taken_back, rows_front, marked_again, rows_same}
+use Rattle.shape_plane.proofs.Extending.{some_pushed, few_pushed, pair_pushed, inside_pushed, flat_extended, refused_extended, err_extended, taken_back}
+use Rattle.shape_plane.proofs.Extending.{rows_front, marked_again, rows_same}
 use Rattle.shape_plane.proofs.growing.extend.Goals as goal
 
 pub decide_by-requires-clause-some : goal.decide_by-requires-clause-some
@@ -16,7 +17,8 @@ decide_by-requires-clause-few g c =
 pub decide_by-requires-clause-inside : goal.decide_by-requires-clause-inside
 decide_by-requires-clause-inside g c =
     let items = c.in_ok-push.ensures.items in
-    inside_pushed c.args.points.now.items c.deref.result.now c.args.p (c.deref.ensures.value ∙ items) g.P.Point.coords g.P.Point.MAX_SIDE c.requires.inside c.requires.point
+    inside_pushed c.args.points.now.items c.deref.result.now c.args.p (c.deref.ensures.value ∙ items) g.P.Point.coords g.P.Point.MAX_SIDE c.requires.inside
+    c.requires.point
 
 pub decide_by-requires-clause-pair : goal.decide_by-requires-clause-pair
 decide_by-requires-clause-pair g c =
@@ -26,49 +28,68 @@ decide_by-requires-clause-pair g c =
 pub decide_by-requires-clause-known : goal.decide_by-requires-clause-known
 decide_by-requires-clause-known g c =
     let items = c.in_ok-push.ensures.items in
-    rows_pushed g.P.Point.coords c.args.axis c.args.points.now.items c.deref.result.now c.args.p c.args.known.now (c.deref.ensures.value ∙ items) c.requires.known
+    rows_pushed g.P.Point.coords c.args.axis c.args.points.now.items c.deref.result.now c.args.p c.args.known.now (c.deref.ensures.value ∙ items)
+    c.requires.known
 
 pub reset-requires : goal.reset-requires
 reset-requires g c =
-    marked_again (length c.deref.result.now) c.args.axis (map g.P.Point.coords c.deref.result.now) c.mark-mark.result c.args.known.now c.decide_by.new.known c.mark-mark.ensures c.decide_by.ensures.grown
+    marked_again (length c.deref.result.now) c.args.axis (map g.P.Point.coords c.deref.result.now) c.mark-mark.result c.args.known.now c.decide_by.new.known
+    c.mark-mark.ensures c.decide_by.ensures.grown
 
 pub reset-requires-in-Err : goal.reset-requires-in-Err
 reset-requires-in-Err g c =
-    marked_again (length c.deref.result.now) c.args.axis (map g.P.Point.coords c.deref.result.now) c.mark-mark.result c.args.known.now c.decide_by.new.known c.mark-mark.ensures c.decide_by.ensures.grown
+    marked_again (length c.deref.result.now) c.args.axis (map g.P.Point.coords c.deref.result.now) c.mark-mark.result c.args.known.now c.decide_by.new.known
+    c.mark-mark.ensures c.decide_by.ensures.grown
 
 pub returns-in-Ok-Flat-clause-extended : goal.returns-in-Ok-Flat-clause-extended
 returns-in-Ok-Flat-clause-extended g c =
     let items = c.in_ok-push.ensures.items in
-    flat_extended g.P.Point.coords g.P.Point.DIM c.args.axis c.args.points.now.items c.deref.result.now c.push.new.self.items c.args.p c.in-Ok-Flat.field-0 c.in-Ok-Flat.held items c.deref.ensures.value c.in-Ok-Flat.field-0-is c.in-Ok-Flat.ensures.decided
+    flat_extended g.P.Point.coords g.P.Point.DIM c.args.axis c.args.points.now.items c.deref.result.now c.push.new.self.items c.args.p c.in-Ok-Flat.field-0
+    c.in-Ok-Flat.held items c.deref.ensures.value c.in-Ok-Flat.field-0-is c.in-Ok-Flat.ensures.decided
 
 pub returns-in-Ok-Flat-clause-known : goal.returns-in-Ok-Flat-clause-known
 returns-in-Ok-Flat-clause-known g c =
-    rows_same g.P.Point.coords c.args.axis c.deref.result.now c.push.new.self.items c.decide_by.new.known c.decide_by.new.known (sym c.deref.ensures.value) refl c.decide_by.ensures.grown.rows
+    rows_same g.P.Point.coords c.args.axis c.deref.result.now c.push.new.self.items c.decide_by.new.known c.decide_by.new.known (sym c.deref.ensures.value) refl
+    c.decide_by.ensures.grown.rows
 
 pub returns-in-Ok-Refused-clause-extended : goal.returns-in-Ok-Refused-clause-extended
 returns-in-Ok-Refused-clause-extended g c =
     let items = c.in_ok-push.ensures.items in
-    refused_extended g.P.Point.coords g.P.Point.DIM c.args.axis c.args.points.now.items c.deref.result.now c.truncate.new.self.items c.args.p c.in-Ok-Refused.field-0 c.in-Ok-Refused.why (taken_back c.args.points.now.items c.push.new.self.items c.truncate.new.self.items c.args.p c.len-count.result items c.truncate.ensures.items (c.len-count.ensures ∙ c.args.points.now.ok.0)) (c.deref.ensures.value ∙ items) c.in-Ok-Refused.field-0-is c.in-Ok-Refused.ensures.decided
+    refused_extended g.P.Point.coords g.P.Point.DIM c.args.axis c.args.points.now.items c.deref.result.now c.truncate.new.self.items c.args.p
+    c.in-Ok-Refused.field-0 c.in-Ok-Refused.why
+    (taken_back c.args.points.now.items c.push.new.self.items c.truncate.new.self.items c.args.p c.len-count.result items c.truncate.ensures.items
+    (c.len-count.ensures ∙ c.args.points.now.ok.0)) (c.deref.ensures.value ∙ items) c.in-Ok-Refused.field-0-is c.in-Ok-Refused.ensures.decided
 
 pub returns-in-Ok-Refused-clause-known : goal.returns-in-Ok-Refused-clause-known
 returns-in-Ok-Refused-clause-known g c =
     let items = c.in_ok-push.ensures.items in
-    rows_same g.P.Point.coords c.args.axis c.args.points.now.items c.truncate.new.self.items c.args.known.now c.reset.new.self (taken_back c.args.points.now.items c.push.new.self.items c.truncate.new.self.items c.args.p c.len-count.result items c.truncate.ensures.items (c.len-count.ensures ∙ c.args.points.now.ok.0)) (c.reset.ensures ∙ rows_front (length c.deref.result.now) c.args.axis (map g.P.Point.coords c.deref.result.now) c.mark-mark.result c.args.known.now c.decide_by.new.known c.mark-mark.ensures c.decide_by.ensures.grown) c.requires.known
+    rows_same g.P.Point.coords c.args.axis c.args.points.now.items c.truncate.new.self.items c.args.known.now c.reset.new.self
+    (taken_back c.args.points.now.items c.push.new.self.items c.truncate.new.self.items c.args.p c.len-count.result items c.truncate.ensures.items
+    (c.len-count.ensures ∙ c.args.points.now.ok.0))
+    (c.reset.ensures ∙ rows_front (length c.deref.result.now) c.args.axis (map g.P.Point.coords c.deref.result.now) c.mark-mark.result c.args.known.now
+    c.decide_by.new.known c.mark-mark.ensures c.decide_by.ensures.grown) c.requires.known
 
 pub returns-in-Err-clause-extended : goal.returns-in-Err-clause-extended
 returns-in-Err-clause-extended g c =
     let items = c.in_ok-push.ensures.items in
-    taken_back c.args.points.now.items c.push.new.self.items c.truncate-in-Err.new.self.items c.args.p c.len-count.result items c.truncate-in-Err.ensures.items (c.len-count.ensures ∙ c.args.points.now.ok.0)
+    taken_back c.args.points.now.items c.push.new.self.items c.truncate-in-Err.new.self.items c.args.p c.len-count.result items c.truncate-in-Err.ensures.items
+    (c.len-count.ensures ∙ c.args.points.now.ok.0)
 
 pub returns-in-Err-clause-known : goal.returns-in-Err-clause-known
 returns-in-Err-clause-known g c =
     let items = c.in_ok-push.ensures.items in
-    rows_same g.P.Point.coords c.args.axis c.args.points.now.items c.truncate-in-Err.new.self.items c.args.known.now c.reset-in-Err.new.self (taken_back c.args.points.now.items c.push.new.self.items c.truncate-in-Err.new.self.items c.args.p c.len-count.result items c.truncate-in-Err.ensures.items (c.len-count.ensures ∙ c.args.points.now.ok.0)) (c.reset-in-Err.ensures ∙ rows_front (length c.deref.result.now) c.args.axis (map g.P.Point.coords c.deref.result.now) c.mark-mark.result c.args.known.now c.decide_by.new.known c.mark-mark.ensures c.decide_by.ensures.grown) c.requires.known
+    rows_same g.P.Point.coords c.args.axis c.args.points.now.items c.truncate-in-Err.new.self.items c.args.known.now c.reset-in-Err.new.self
+    (taken_back c.args.points.now.items c.push.new.self.items c.truncate-in-Err.new.self.items c.args.p c.len-count.result items
+    c.truncate-in-Err.ensures.items (c.len-count.ensures ∙ c.args.points.now.ok.0))
+    (c.reset-in-Err.ensures ∙ rows_front (length c.deref.result.now) c.args.axis (map g.P.Point.coords c.deref.result.now) c.mark-mark.result
+    c.args.known.now c.decide_by.new.known c.mark-mark.ensures c.decide_by.ensures.grown) c.requires.known
 
 pub returns-in_err-push-clause-known : goal.returns-in_err-push-clause-known
 returns-in_err-push-clause-known g c =
-    rows_same g.P.Point.coords c.args.axis c.args.points.now.items c.push.new.self.items c.args.known.now c.args.known.now c.in_err-push.ensures.items refl c.requires.known
+    rows_same g.P.Point.coords c.args.axis c.args.points.now.items c.push.new.self.items c.args.known.now c.args.known.now c.in_err-push.ensures.items refl
+    c.requires.known
 
 pub returns-in_err-push-clause-extended : goal.returns-in_err-push-clause-extended
 returns-in_err-push-clause-extended g c =
-    err_extended g.P.Point.coords g.P.Point.DIM c.args.axis c.args.points.now.items c.push.new.self.items c.args.p c.from_residual.result c.from_residual.ensures.0 c.in_err-push.ensures.items
+    err_extended g.P.Point.coords g.P.Point.DIM c.args.axis c.args.points.now.items c.push.new.self.items c.args.p c.from_residual.result
+    c.from_residual.ensures.0 c.in_err-push.ensures.items

@@ -9,4 +9,6 @@ judged-requires-clause-low g c = c.least_and_greatest-e.ensures.low.small
 pub returns : goal.returns
 returns g c =
     let points = map g.P.Point.coords c.args.points.now in
-    c.judged.ensures points (subst (λ (n : ℕ). AreExtremes (values_at g.P.Point.DIM c.args.a.now points) n n c.least_and_greatest-e.result) (sym (length-map c.args.points.now g.P.Point.coords)) c.least_and_greatest-e.ensures)
+    c.judged.ensures points
+    (subst (λ (n : ℕ). AreExtremes (values_at g.P.Point.DIM c.args.a.now points) n n c.least_and_greatest-e.result)
+    (sym (length-map c.args.points.now g.P.Point.coords)) c.least_and_greatest-e.ensures)

@@ -7,4 +7,5 @@ pub product-requires-clause-x_small : goal.product-requires-clause-x_small
 product-requires-clause-x_small g c =
     let f : FitsSigned w32 c.coord.result = search rules in
     let l = g.met.P.Point.axes c.args.p in
-    simp to_z-of_z (small_coordinate g.P.Point.MAX_SIDE _ c.coord.result c.coord.ensures (c.requires.within c.args.k (let a = c.requires.axis in omega (arith, a, l))) g.met.P.Point.flat_side)
+    simp to_z-of_z (small_coordinate g.P.Point.MAX_SIDE _ c.coord.result c.coord.ensures
+    (c.requires.within c.args.k (let a = c.requires.axis in omega (arith, a, l))) g.met.P.Point.flat_side)

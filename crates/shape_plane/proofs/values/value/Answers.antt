@@ -12,8 +12,10 @@ returns-then-DIM-eq2-clause-value g c =
     let fq : FitsSigned w64 c.term-2.result = search rules in
     let fs : FitsSigned w64 c.two-flat.result = search rules in
     let es = simp to_z-of_z at c.two-flat.ensures.value in
-    simp to_z-of_z (flat_value c.args.a.now p g.P.Point.DIM c.two-flat.result c.term.result c.term-2.result (coordinate p 0) (coordinate p 1) c.requires.small.three
-    (g.met.P.Point.axes c.args.p) (two_axes g.P.Point.DIM c.DIM.result c.DIM.ensures c.if-DIM-eq2.true) refl refl c.term.ensures.value c.term-2.ensures.value es)
+    simp to_z-of_z (flat_value c.args.a.now p g.P.Point.DIM c.two-flat.result c.term.result c.term-2.result (coordinate p 0) (coordinate p 1)
+    c.requires.small.three
+    (g.met.P.Point.axes c.args.p) (two_axes g.P.Point.DIM c.DIM.result c.DIM.ensures c.if-DIM-eq2.true) refl refl c.term.ensures.value c.term-2.ensures.value
+    es)
 
 pub returns-else-DIM-eq2-clause-value : goal.returns-else-DIM-eq2-clause-value
 returns-else-DIM-eq2-clause-value g c =
@@ -25,8 +27,10 @@ returns-else-DIM-eq2-clause-value g c =
     let ft : FitsSigned w64 c.three.result = search rules in
     let es = simp to_z-of_z at c.two-flat.ensures.value in
     let er = simp to_z-of_z at c.three.ensures.value in
-    simp to_z-of_z (solid_value c.args.a.now p g.P.Point.DIM c.three.result c.two-flat.result c.term.result c.term-2.result c.term-else-DIM-eq2.result (coordinate p 0) (coordinate p 1) (coordinate p 2) c.requires.small.three
-    (g.met.P.Point.axes c.args.p) (three_axes g.P.Point.DIM c.DIM.result g.met.P.Point.two_or_three c.DIM.ensures c.if-DIM-eq2.false) refl refl refl c.term.ensures.value c.term-2.ensures.value c.term-else-DIM-eq2.ensures.value es er)
+    simp to_z-of_z (solid_value c.args.a.now p g.P.Point.DIM c.three.result c.two-flat.result c.term.result c.term-2.result c.term-else-DIM-eq2.result
+    (coordinate p 0) (coordinate p 1) (coordinate p 2) c.requires.small.three
+    (g.met.P.Point.axes c.args.p) (three_axes g.P.Point.DIM c.DIM.result g.met.P.Point.two_or_three c.DIM.ensures c.if-DIM-eq2.false) refl refl refl
+    c.term.ensures.value c.term-2.ensures.value c.term-else-DIM-eq2.ensures.value es er)
 
 pub term-requires-clause-axis : goal.term-requires-clause-axis
 term-requires-clause-axis g c = first_axis g.P.Point.DIM g.met.P.Point.two_or_three

@@ -23,10 +23,12 @@ overflow_mul-result c =
 pub returns-clause-value : goal.returns-clause-value
 returns-clause-value c =
     let l : c.args.weight < 2 ^ 64 = search rules in
-    rw (parts c.args.weight c.args.x l c.ranges.x c.requires) (to_z-of_z w128 (pos c.args.weight *ℤ c.args.x) (fits c.args.weight c.args.x l c.ranges.x c.requires))
+    rw (parts c.args.weight c.args.x l c.ranges.x c.requires)
+    (to_z-of_z w128 (pos c.args.weight *ℤ c.args.x) (fits c.args.weight c.args.x l c.ranges.x c.requires))
 
 pub returns-clause-small : goal.returns-clause-small
 returns-clause-small c =
     let l : c.args.weight < 2 ^ 64 = search rules in
     let f = fits c.args.weight c.args.x l c.ranges.x c.requires in
-    rw (parts c.args.weight c.args.x l c.ranges.x c.requires, to_z-of_z w128 (pos c.args.weight *ℤ c.args.x) f) (size c.args.weight c.args.x l c.ranges.x c.requires)
+    rw (parts c.args.weight c.args.x l c.ranges.x c.requires, to_z-of_z w128 (pos c.args.weight *ℤ c.args.x) f)
+    (size c.args.weight c.args.x l c.ranges.x c.requires)

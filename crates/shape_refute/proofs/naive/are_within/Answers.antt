@@ -12,5 +12,8 @@ returns-then-not-is_within g c =
 
 pub returns : goal.returns
 returns g c =
-    let few : g.P.Point.DIM ≤ length c.args.a.now = rw c.told-a (few_axes g.P.Point.DIM g.met.P.Point.two_or_three) in
-    (λ x. all_within c.args.a.now g.P.Point.DIM c.args.bound few c.requires (λ u l. rw (to_z-of_z w64 c.args.bound c.ranges.bound) at (c.loop-k.invariant u (omega arith))), λ w. refl)
+    let few : g.P.Point.DIM ≤ length c.args.a.now = rw c.told-a (few_axes g.P.Point.DIM g.met.P.Point.two_or_three) in (
+      λ x. all_within c.args.a.now g.P.Point.DIM c.args.bound few c.requires
+          (λ u l. rw (to_z-of_z w64 c.args.bound c.ranges.bound) at (c.loop-k.invariant u (omega arith))),
+      λ w. refl,
+    )

@@ -35,4 +35,5 @@ returns-else-n-ge0 c =
     let p = simp to_z-of_z at c.if-side-gt0.false in
     let q = simp to_z-of_z at c.if-side-lt0.false in
     let r = simp to_z-of_z at c.if-n-ge0.false in
-    narrow_none c.args.range.low c.args.range.high c.args.side c.args.n (λ l. absurd (omega (arith, ints, p, l))) (λ l. absurd (omega (arith, ints, q, l))) (omega (arith, ints, r))
+    narrow_none c.args.range.low c.args.range.high c.args.side c.args.n (λ l. absurd (omega (arith, ints, p, l))) (λ l. absurd (omega (arith, ints, q, l)))
+    (omega (arith, ints, r))

@@ -6,4 +6,5 @@ use Rattle.shape_refute.proofs.refutation.are_places.Goals as goal
 
 pub loop-i-preserved : goal.loop-i-preserved
 loop-i-preserved c =
-    all_step (λ (s : Share). s.place < c.args.count) c.args.shares.now c.loop-i.i (c.loop-i.i - 1) (share_of c.get.result) (omega arith) c.get.ensures (omega (arith, c.if-get-count.false)) c.loop-i.invariant
+    all_step (λ (s : Share). s.place < c.args.count) c.args.shares.now c.loop-i.i (c.loop-i.i - 1) (share_of c.get.result) (omega arith) c.get.ensures
+    (omega (arith, c.if-get-count.false)) c.loop-i.invariant

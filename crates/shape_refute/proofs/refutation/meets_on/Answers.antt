@@ -15,5 +15,6 @@ returns g c =
     let h = simp to_z-of_z at c.are_equal.ensures in
     let es = simp to_z-of_z at c.sum.ensures.value in
     let eh = simp to_z-of_z at c.points_sum-high.ensures.value in
-    meet_is c.args.axis c.args.k (map g.P.Point.coords c.args.points.now) (refutation_of c.args.r.now) c.are_equal.result c.points_sum-low.result c.steps_sum.result c.sum.result c.points_sum-high.result c.unit_coordinate.result
+    meet_is c.args.axis c.args.k (map g.P.Point.coords c.args.points.now) (refutation_of c.args.r.now) c.are_equal.result c.points_sum-low.result
+    c.steps_sum.result c.sum.result c.points_sum-high.result c.unit_coordinate.result
     h es c.points_sum-low.ensures.value c.steps_sum.ensures.value c.unit_coordinate.ensures.value eh

@@ -20,9 +20,12 @@ loop-i-preserved g c =
     let es = simp to_z-of_z at c.sum-total.ensures.value in
     let total = to_z w128 c.loop-i.total-bits in
     let inv = rw (to_z-of_z w32 c.args.less fl) at c.loop-i.invariant in
-    let place : c.get-share.result.place < length c.args.points.now = all_at (λ (s : Share). s.place < length c.args.points.now) c.args.shares.now i (share_of c.get-share.result) c.get-share.ensures c.requires.places in
-    let v = value_read g.P.Point.coords c.args.points.now c.get-share.result.place c.args.k c.index-points-share.result c.args.less c.coord.result c.minus.result c.index-points-share.is place c.coord.ensures em in
+    let place : c.get-share.result.place < length c.args.points.now = all_at (λ (s : Share). s.place < length c.args.points.now) c.args.shares.now i
+    (share_of c.get-share.result) c.get-share.ensures c.requires.places in
+    let v = value_read g.P.Point.coords c.args.points.now c.get-share.result.place c.args.k c.index-points-share.result c.args.less c.coord.result
+    c.minus.result c.index-points-share.is place c.coord.ensures em in
     simp to_z-of_z (
-      sum_step (axis_value (map g.P.Point.coords c.args.points.now) c.args.k c.args.less) c.args.shares.now c.loop-i.i i (share_of c.get-share.result) c.minus.result total c.weighed.result c.sum-total.result (omega arith) c.get-share.ensures inv.0 ew v es,
+      sum_step (axis_value (map g.P.Point.coords c.args.points.now) c.args.k c.args.less) c.args.shares.now c.loop-i.i i (share_of c.get-share.result)
+          c.minus.result total c.weighed.result c.sum-total.result (omega arith) c.get-share.ensures inv.0 ew v es,
       bound_step total c.weighed.result c.sum-total.result c.loop-i.i i (omega arith) inv.1 c.weighed.ensures.small es,
     )

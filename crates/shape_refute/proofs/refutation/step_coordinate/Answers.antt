@@ -9,7 +9,9 @@ returns-in-Plus-clause-value c =
     let fm : FitsSigned w32 c.unit_coordinate-main.result = search rules in
     let fu : FitsSigned w32 c.unit_coordinate.result = search rules in
     let e = simp to_z-of_z at c.plus-in-Plus.ensures.value in
-    rw (c.in-Plus.is, to_z-of_z w64 c.plus-in-Plus.result f) (plus_is c.args.axis c.in-Plus.u c.args.k c.plus-in-Plus.result c.unit_coordinate-main.result c.unit_coordinate.result e c.unit_coordinate-main.ensures.value c.unit_coordinate.ensures.value)
+    rw (c.in-Plus.is, to_z-of_z w64 c.plus-in-Plus.result f)
+    (plus_is c.args.axis c.in-Plus.u c.args.k c.plus-in-Plus.result c.unit_coordinate-main.result c.unit_coordinate.result e
+    c.unit_coordinate-main.ensures.value c.unit_coordinate.ensures.value)
 
 pub returns-in-Minus-clause-value : goal.returns-in-Minus-clause-value
 returns-in-Minus-clause-value c =
@@ -17,4 +19,6 @@ returns-in-Minus-clause-value c =
     let fm : FitsSigned w32 c.unit_coordinate-main.result = search rules in
     let fu : FitsSigned w32 c.unit_coordinate-in-Minus.result = search rules in
     let e = simp to_z-of_z at c.minus.ensures.value in
-    rw (c.in-Minus.is, to_z-of_z w64 c.minus.result f) (minus_is c.args.axis c.in-Minus.u c.args.k c.minus.result c.unit_coordinate-main.result c.unit_coordinate-in-Minus.result e c.unit_coordinate-main.ensures.value c.unit_coordinate-in-Minus.ensures.value)
+    rw (c.in-Minus.is, to_z-of_z w64 c.minus.result f)
+    (minus_is c.args.axis c.in-Minus.u c.args.k c.minus.result c.unit_coordinate-main.result c.unit_coordinate-in-Minus.result e
+    c.unit_coordinate-main.ensures.value c.unit_coordinate-in-Minus.ensures.value)

@@ -16,6 +16,7 @@ loop-i-preserved c =
     let total = to_z w128 c.loop-i.total-bits in
     let inv = c.loop-i.invariant in
     simp to_z-of_z (
-      steps_step c.args.axis c.args.k c.args.shares.now c.loop-i.i i (step_share_of c.get-share.result) c.step_coordinate.result total c.weighed.result c.sum-total.result (omega arith) c.get-share.ensures inv.0 ew c.step_coordinate.ensures.value es,
+      steps_step c.args.axis c.args.k c.args.shares.now c.loop-i.i i (step_share_of c.get-share.result) c.step_coordinate.result total c.weighed.result
+          c.sum-total.result (omega arith) c.get-share.ensures inv.0 ew c.step_coordinate.ensures.value es,
       bound_step total c.weighed.result c.sum-total.result c.loop-i.i i (omega arith) inv.1 c.weighed.ensures.small es,
     )

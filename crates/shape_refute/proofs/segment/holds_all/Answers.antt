@@ -19,5 +19,8 @@ returns-then-not-holds c =
 pub returns : goal.returns
 returns c =
     let line = c.args.line.now in
-    let d : P2 = record { y = pos 0; x = pos 0 } in
-    (λ t. held_all flat_point c.args.run.now d line.axis (naive_of 2 line) (λ j l. c.loop-i.invariant j d (omega (arith, c.loop-i.auto.i-end, c.loop-i-test.false))), λ all. refl)
+    let d : P2 = record { y = pos 0; x = pos 0 } in (
+      λ t. held_all flat_point c.args.run.now d line.axis (naive_of 2 line)
+          (λ j l. c.loop-i.invariant j d (omega (arith, c.loop-i.auto.i-end, c.loop-i-test.false))),
+      λ all. refl,
+    )

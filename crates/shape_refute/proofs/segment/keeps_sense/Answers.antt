@@ -6,5 +6,8 @@ use Rattle.shape_refute.proofs.segment.keeps_sense.Goals as goal
 
 pub returns : goal.returns
 returns c =
-    let run = map flat_point c.args.run.now in
-    (λ t. sense_kept c.args.axis run (λ j l. c.loop-j.invariant j (omega (arith, l, length-map c.args.run.now flat_point, c.loop-j.auto.j-end, c.loop-j-test.false))), λ k. refl)
+    let run = map flat_point c.args.run.now in (
+      λ t. sense_kept c.args.axis run
+          (λ j l. c.loop-j.invariant j (omega (arith, l, length-map c.args.run.now flat_point, c.loop-j.auto.j-end, c.loop-j-test.false))),
+      λ k. refl,
+    )

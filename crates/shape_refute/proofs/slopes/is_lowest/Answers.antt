@@ -21,8 +21,10 @@ loop-b-smaller c =
     let fb : FitsSigned w64 b = search rules in
     let e = c.has_slope.ensures in
     let v = c.next-b.ensures in
-    let no : ((x : ℤ) × IsSlope c.args.first.side c.args.first.room c.args.second.side c.args.second.room x b) → ⊥ = (λ s. let q : false ≡ true = sym c.if-has_slope.false ∙ e.1 s in cc) in
-    let l = next_small c.args.first.side c.args.first.room c.args.second.side c.args.second.room b c.next-b.result c.loop-b.invariant.none no v c.requires.slope in
+    let no : ((x : ℤ) × IsSlope c.args.first.side c.args.first.room c.args.second.side c.args.second.room x b)
+    → ⊥ = (λ s. let q : false ≡ true = sym c.if-has_slope.false ∙ e.1 s in cc) in
+    let l = next_small c.args.first.side c.args.first.room c.args.second.side c.args.second.room b c.next-b.result c.loop-b.invariant.none no v c.requires.slope
+    in
     let fv : FitsSigned w64 c.next-b.result = search rules in
     simp to_z-of_z (nearer b c.next-b.result v l)
 
@@ -33,9 +35,11 @@ loop-b-preserved c =
     let e = c.has_slope.ensures in
     let v = c.next-b.ensures in
     let some = c.loop-b.invariant.some in
-    let no : ((x : ℤ) × IsSlope c.args.first.side c.args.first.room c.args.second.side c.args.second.room x b) → ⊥ = (λ s. let q : false ≡ true = sym c.if-has_slope.false ∙ e.1 s in cc) in
+    let no : ((x : ℤ) × IsSlope c.args.first.side c.args.first.room c.args.second.side c.args.second.room x b)
+    → ⊥ = (λ s. let q : false ≡ true = sym c.if-has_slope.false ∙ e.1 s in cc) in
     let n = none_next c.args.first.side c.args.first.room c.args.second.side c.args.second.room b c.next-b.result c.loop-b.invariant.none no v in
-    let l = next_small c.args.first.side c.args.first.room c.args.second.side c.args.second.room b c.next-b.result c.loop-b.invariant.none no v c.requires.slope in
+    let l = next_small c.args.first.side c.args.first.room c.args.second.side c.args.second.room b c.next-b.result c.loop-b.invariant.none no v c.requires.slope
+    in
     let fv : FitsSigned w64 c.next-b.result = search rules in
     record { some = simp to_z-of_z (omega (arith, ints, some, v)); small = simp to_z-of_z l; none = simp to_z-of_z n }
 

@@ -9,4 +9,5 @@ use Rattle.shape_refute.proofs.turn.other_at.Goals as goal
 pub returns : goal.returns
 returns c =
     let f : FitsSigned w32 c.coord.result = search rules in
-    to_z-of_z w32 c.coord.result f ∙ c.coord.ensures ∙ sym (ap (λ p. coordinate p (other_axis c.args.axis)) (get_or-map flat_point c.args.points.now c.args.i _ [] c.requires.place))
+    to_z-of_z w32 c.coord.result f ∙ c.coord.ensures
+    ∙ sym (ap (λ p. coordinate p (other_axis c.args.axis)) (get_or-map flat_point c.args.points.now c.args.i _ [] c.requires.place))

@@ -7,4 +7,5 @@ pub returns : goal.returns
 returns g c =
     let text = c.args.bytes.now in
     let is = sym c.new-words.ensures ∙ c.in_ok-word.ensures in
-    from_words g.P.Point.DIM g.P.Point.coords text c.fields.result (of_fields g.P.Point.DIM g.P.Point.coords (split_words text) c.in_ok-word.word.now c.next_word.new.self c.fields.result is c.fields.ensures)
+    from_words g.P.Point.DIM g.P.Point.coords text c.fields.result
+    (of_fields g.P.Point.DIM g.P.Point.coords (split_words text) c.in_ok-word.word.now c.next_word.new.self c.fields.result is c.fields.ensures)

@@ -17,7 +17,8 @@ pub put_seg-requires-clause-axis : goal.put_seg-requires-clause-axis
 put_seg-requires-clause-axis g c = (subst (λ l. IsLineOf g.P.Point.DIM (line_of g.P.Point.coords l)) c.in-Seg.is c.requires.range).1.1.1.0
 
 pub put_gap-requires-clause-range : goal.put_gap-requires-clause-range
-put_gap-requires-clause-range g c = gap_range g.P.Point.DIM c.in-Gap.axis c.in-Gap.refusal (subst (λ l. IsLineOf g.P.Point.DIM (line_of g.P.Point.coords l)) c.in-Gap.is c.requires.range)
+put_gap-requires-clause-range g c = gap_range g.P.Point.DIM c.in-Gap.axis c.in-Gap.refusal
+    (subst (λ l. IsLineOf g.P.Point.DIM (line_of g.P.Point.coords l)) c.in-Gap.is c.requires.range)
 
 pub put_face-requires-clause-axis : goal.put_face-requires-clause-axis
 put_face-requires-clause-axis g c = (subst (λ l. IsLineOf g.P.Point.DIM (line_of g.P.Point.coords l)) c.in-Face.is c.requires.range).1.0

@@ -13,7 +13,9 @@ returns-then-early-late c =
     let w = 2 * (j - i) in
     let some : 0 < w = omega arith in
     let fits : FitsSigned w64 c.rounded_up.result = search rules in
-    rw (to_z-of_z w64 c.rounded_up.result fits, c.rounded_up.ensures) (first_above f i g j (j - i) m w ((m + (w - 1)) / w) (omega arith) refl (omega arith) (omega arith) (rounded_enough m w ((m + (w - 1)) / w) some refl) (λ n h. rounded_least m w ((m + (w - 1)) / w) n some refl h))
+    rw (to_z-of_z w64 c.rounded_up.result fits, c.rounded_up.ensures)
+    (first_above f i g j (j - i) m w ((m + (w - 1)) / w) (omega arith) refl (omega arith) (omega arith) (rounded_enough m w ((m + (w - 1)) / w) some refl)
+    (λ n h. rounded_least m w ((m + (w - 1)) / w) n some refl h))
 
 pub returns-else-early-late : goal.returns-else-early-late
 returns-else-early-late c =

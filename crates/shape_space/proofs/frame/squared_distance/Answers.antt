@@ -14,7 +14,13 @@ loop-k-preserved g c =
     let b = g.met.P.Point.axes c.args.q in
     let f : FitsSigned w32 c.coord.result = search rules in
     let f2 : FitsSigned w32 c.coord-in-loop-k.result = search rules in
-    let is : c.abs_diff-gap.result ≡ nat_abs (coordinate p j -ℤ coordinate q j) = rw (to_z-of_z w32 c.coord.result f, to_z-of_z w32 c.coord-in-loop-k.result f2, c.coord.ensures, c.coord-in-loop-k.ensures) at c.abs_diff-gap.ensures in (
+    let is : c.abs_diff-gap.result ≡ nat_abs (coordinate p j -ℤ coordinate q j) =
+    rw (to_z-of_z w32 c.coord.result f, to_z-of_z w32 c.coord-in-loop-k.result f2, c.coord.ensures, c.coord-in-loop-k.ensures) at c.abs_diff-gap.ensures in (
       squared_distance-more p q c.loop-k.k j c.loop-k.s c.abs_diff-gap.result (omega arith) (omega arith) (omega arith) is c.loop-k.invariant.0,
-      omega (arith, c.loop-k.invariant.1, square_apart (coordinate p j) (coordinate q j) c.abs_diff-gap.result is (c.requires.near j (omega arith)) (c.requires.far j (omega arith))),
+      omega (
+        arith,
+        c.loop-k.invariant.1,
+        square_apart (coordinate p j) (coordinate q j) c.abs_diff-gap.result is (c.requires.near j (omega arith))
+            (c.requires.far j (omega arith)),
+      ),
     )

@@ -16,7 +16,8 @@ returns-then-DIM-eq2 g c =
     let ex = simp to_z-of_z at c.product.ensures.value in
     let ey = simp to_z-of_z at c.product-2.ensures.value in
     let es = simp to_z-of_z at c.sum-flat.ensures.value in
-    simp to_z-of_z (flat_value c.args.a.now (g.P.Point.coords c.args.p) g.P.Point.DIM c.sum-flat.result c.product.result c.product-2.result c.coord.result c.coord-2.result
+    simp to_z-of_z (flat_value c.args.a.now (g.P.Point.coords c.args.p) g.P.Point.DIM c.sum-flat.result c.product.result c.product-2.result c.coord.result
+    c.coord-2.result
     (search rules) (g.met.P.Point.axes c.args.p) (omega (arith, c.DIM.ensures, c.if-DIM-eq2.true)) c.coord.ensures c.coord-2.ensures ex ey es)
 
 pub returns-else-DIM-eq2 : goal.returns-else-DIM-eq2
@@ -37,5 +38,7 @@ returns-else-DIM-eq2 g c =
     let ez = simp to_z-of_z at c.product-else-DIM-eq2.ensures.value in
     let es = simp to_z-of_z at c.sum-flat.ensures.value in
     let er = simp to_z-of_z at c.sum.ensures.value in
-    simp to_z-of_z (solid_value c.args.a.now (g.P.Point.coords c.args.p) g.P.Point.DIM c.sum.result c.sum-flat.result c.product.result c.product-2.result c.product-else-DIM-eq2.result c.coord.result c.coord-2.result c.coord-else-DIM-eq2.result
-    (search rules) (g.met.P.Point.axes c.args.p) (grind (arith, g.met.P.Point.two_or_three, c.DIM.ensures, c.if-DIM-eq2.false)) c.coord.ensures c.coord-2.ensures c.coord-else-DIM-eq2.ensures ex ey ez es er)
+    simp to_z-of_z (solid_value c.args.a.now (g.P.Point.coords c.args.p) g.P.Point.DIM c.sum.result c.sum-flat.result c.product.result c.product-2.result
+    c.product-else-DIM-eq2.result c.coord.result c.coord-2.result c.coord-else-DIM-eq2.result
+    (search rules) (g.met.P.Point.axes c.args.p) (grind (arith, g.met.P.Point.two_or_three, c.DIM.ensures, c.if-DIM-eq2.false)) c.coord.ensures
+    c.coord-2.ensures c.coord-else-DIM-eq2.ensures ex ey ez es er)

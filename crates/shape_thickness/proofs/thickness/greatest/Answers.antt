@@ -19,7 +19,8 @@ paint_centre-requires-clause-place g c =
     let n = c.len-k.ensures in
     let k = c.loop-k.k - 1 in
     let l : k < length centres = omega arith in
-    let is : c.index-centre.result.now ≡ centre_of centres k = get_or_read centres k c.index-centre.result.now l c.index-centre.ensures (record { s = 0; place = 0 }) in
+    let is : c.index-centre.result.now ≡ centre_of centres k = get_or_read centres k c.index-centre.result.now l c.index-centre.ensures
+    (record { s = 0; place = 0 }) in
     rw (c.sides-sides.ensures.value, is) (centre_below X ds centres rising k l)
 
 pub paint_centre-requires-clause-filled : goal.paint_centre-requires-clause-filled
@@ -36,7 +37,8 @@ loop-k-init g c =
     let canvas : c.in_ok-canvas.canvas ≡ replicate c.count.result 0 = c.in_ok-canvas.ensures in
     let long : length c.in_ok-canvas.canvas ≡ c.count.result = ap length canvas ∙ length-replicate c.count.result 0 in
     record {
-      painted = painted_start X.sides centres c.len-k.result c.in_ok-canvas.canvas (omega (arith, n)) (long ∙ (c.count.ensures.value ∙ ap box_count c.sides-sides.ensures.value))
+      painted = painted_start X.sides centres c.len-k.result c.in_ok-canvas.canvas (omega (arith, n))
+          (long ∙ (c.count.ensures.value ∙ ap box_count c.sides-sides.ensures.value))
           (λ j b. ap (λ (xs : List ℕ). slice_index xs j) canvas ∙ get_or-replicate c.count.result j 0 0 (omega (arith, b, long)));
       known = rw c.sides-sides.ensures.value at c.in_ok-depths.ensures;
     }
@@ -50,7 +52,8 @@ loop-k-preserved g c =
     let n = c.len-k.ensures in
     let k = c.loop-k.k - 1 in
     let l : k < length centres = omega arith in
-    let is : c.index-centre.result.now ≡ centre_of centres k = get_or_read centres k c.index-centre.result.now l c.index-centre.ensures (record { s = 0; place = 0 }) in
+    let is : c.index-centre.result.now ≡ centre_of centres k = get_or_read centres k c.index-centre.result.now l c.index-centre.ensures
+    (record { s = 0; place = 0 }) in
     let next : c.loop-k.k ≡ k + 1 = omega arith in
     let before = subst (λ k. ArePaintedFrom X.sides centres k c.loop-k.canvas) next c.loop-k.invariant.painted in
     let painted = rw (c.sides-sides.ensures.value, is) at c.in_ok-paint_centre.ensures.painted in
@@ -66,4 +69,5 @@ returns g c =
     let centres = c.in_ok-centres.centres.items in
     let rising = c.in_ok-centres.ensures in
     let none : c.loop-k.k ≡ 0 = omega arith in
-    rw c.into_values.ensures (greatest_are X ds centres rising c.loop-k.canvas (subst (λ k. ArePaintedFrom X.sides centres k c.loop-k.canvas) none c.loop-k.invariant.painted))
+    rw c.into_values.ensures
+    (greatest_are X ds centres rising c.loop-k.canvas (subst (λ k. ArePaintedFrom X.sides centres k c.loop-k.canvas) none c.loop-k.invariant.painted))

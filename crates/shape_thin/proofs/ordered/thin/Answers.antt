@@ -8,8 +8,8 @@ use Rattle.shape_terms.proofs.BoxLists.{few_objects}
 use Rattle.shape_terms.proofs.ThinningKept.{thinning_keeps}
 use Rattle.shape_queue.proofs.GoingSteps.{going_end, few_more}
 use Rattle.shape_rules.specs.FactsOf.{facts_of}
-use Rattle.thin_steps.specs.Fronts.{reach_of}
-use Rattle.thin_steps.specs.Standing.{StandsFor, ahead_of}
+use Rattle.shape_thin.specs.Fronts.{reach_of}
+use Rattle.shape_thin.specs.Standing.{StandsFor, ahead_of}
 use Rattle.shape_thin.specs.EventLists.{events_at}
 use Rattle.shape_thin.specs.declared.events.Done.{Done}
 use Rattle.shape_thin.proofs.EventSteps.{events_push}
@@ -83,7 +83,8 @@ returns-clause-thinning g c =
     (i.stands.marked, (i.stands.thins, going_end _ c.args.grid.now _ _ t.left (reach_of t.front) i.stands c.in_default.ensures.0 c.in_default.ensures.1))
 
 pub returns-clause-kept : goal.returns-clause-kept
-returns-clause-kept g c = λ n o b h. rw (c.of.ensures.left, c.into_left.ensures) (thinning_keeps _ c.args.grid.now _ _ n o b c.loop-next.invariant.stands.thins h)
+returns-clause-kept g c = λ n o b h. rw (c.of.ensures.left, c.into_left.ensures)
+    (thinning_keeps _ c.args.grid.now _ _ n o b c.loop-next.invariant.stands.thins h)
 
 pub returns-clause-few : goal.returns-clause-few
 returns-clause-few g c =

@@ -2,7 +2,7 @@ use Rattle.std.proofs.Common.{◌≡◌, ◌+◌, ◌*◌, ◌<◌, ◌≤◌, l
 use Rattle.std.specs.Prelude.{All}
 use Rattle.shape_terms.specs.Points.{box_count}
 use Rattle.shape_terms.specs.Pictures.{object_points}
-use Rattle.thin_steps.specs.Standing.{StandsFor, room_of, ahead_of}
+use Rattle.shape_thin.specs.Standing.{StandsFor, room_of, ahead_of}
 use Rattle.shape_thin.specs.EventLists.{events_at}
 use Rattle.shape_thin.proofs.ordered.thin.Given as goal
 

@@ -18,7 +18,8 @@ shared a b d h l =
     ((both_sets a b k).0 ((both_sets (bit_and a b) d k).0 t.1).0).0
 
 pub returns-else-more-eq0-clause-place : goal.returns-else-more-eq0-clause-place
-returns-else-more-eq0-clause-place c = shared c.args.part c.side_neighbours.result (2 ^ 32 - 1 - 1 * 2 ^ c.args.k % 2 ^ 32) c.requires.few (omega (arith, c.if-more-eq0.false))
+returns-else-more-eq0-clause-place c = shared c.args.part c.side_neighbours.result (2 ^ 32 - 1 - 1 * 2 ^ c.args.k % 2 ^ 32) c.requires.few
+    (omega (arith, c.if-more-eq0.false))
 
 pub returns-else-more-eq0-clause-few : goal.returns-else-more-eq0-clause-few
 returns-else-more-eq0-clause-few c = place_below c.args.part 26 _ c.requires.few

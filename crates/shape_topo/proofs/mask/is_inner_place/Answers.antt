@@ -18,7 +18,8 @@ loop-k-preserved g c =
     let low = rw (to_z-of_z w32 c.side-side.result f) at c.if-x-lt1.false in
     let high = rw (to_z-of_z w32 c.side-side.result f) at c.if-x-side.false in
     rw (to_z-of_z w32 c.side-side.result f)
-    (left_more n c.args.i c.loop-k.k c.loop-k.left (omega arith) c.side-side.result c.side-side.ensures.value c.side-side.ensures.some (omega arith) (omega arith) c.loop-k.invariant)
+    (left_more n c.args.i c.loop-k.k c.loop-k.left (omega arith) c.side-side.result c.side-side.ensures.value c.side-side.ensures.some (omega arith)
+    (omega arith) c.loop-k.invariant)
 
 pub returns-then-left-ge1 : goal.returns-then-left-ge1
 returns-then-left-ge1 g c t =
@@ -30,5 +31,6 @@ returns-then-left-ge1 g c t =
     let last : c.DIM-last.result - 1 ≡ c.loop-k.k = omega arith in
     let some : 1 ≤ g.P.Point.DIM = elim g.met.P.Point.two_or_three [ inl e ↦ omega arith | inr e ↦ omega arith ] in
     let axes : length p ≡ length n = length-raster_point (sides_of n) c.args.i ∙ length-map n nat_abs in
-    let apart = left_end n c.args.i c.loop-k.k c.loop-k.left (omega (arith, c.DIM-last.ensures)) c.side.result (c.side.ensures.value ∙ ap (coordinate n) last) c.side.ensures.some (omega arith) high c.loop-k.invariant in
+    let apart = left_end n c.args.i c.loop-k.k c.loop-k.left (omega (arith, c.DIM-last.ensures)) c.side.result (c.side.ensures.value ∙ ap (coordinate n) last)
+    c.side.ensures.some (omega arith) high c.loop-k.invariant in
     λ k l. all_inside n p axes apart k (omega (arith, l, g.met.P.Pairing.near_total, ap near_total (axes ∙ a)))

@@ -14,4 +14,5 @@ returns-then-is_inner_place-clause-few g c =
     let s = sides_of (g.P.Point.coords c.args.near.now.sides.lengths) in
     let p = raster_point s c.args.i in
     let axes : length p ≡ g.P.Point.DIM = length-raster_point s c.args.i ∙ ap length c.requires.sides ∙ c.is_picture.ensures.picture.axes in
-    mask_small (record { sides = s; values = c.values.result.now }) p c.mask.result g.P.Pairing.NEAR_COUNT c.mask.ensures (g.met.P.Pairing.near_total ∙ ap near_total (sym axes))
+    mask_small (record { sides = s; values = c.values.result.now }) p c.mask.result g.P.Pairing.NEAR_COUNT c.mask.ensures
+    (g.met.P.Pairing.near_total ∙ ap near_total (sym axes))

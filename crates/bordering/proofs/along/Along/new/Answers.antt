@@ -1,5 +1,5 @@
 use Rattle.std.proofs.Common.{sym}
-use Rattle.border_terms.proofs.RootFound.{zero_over}
+use Rattle.measure_terms.proofs.QuotientFound.{zero_over}
 use Rattle.bordering.proofs.along.Along.new.Goals as goal
 
 pub invariant_of-result-clause-last_is : goal.invariant_of-result-clause-last_is

@@ -35,7 +35,8 @@ returns-in_ok-begin-in-Contour c = λ lines h.
     let l = flat_line (Contour c.in-Contour.p c.in-Contour.side c.in-Contour.points c.in-Contour.segments) in
     let k = c.begin.new.self in
     subst (λ (x : Line P2). HasBorders (lines ++ flat_line x ∷ []) k) (sym c.in-Contour.is)
-    (subst (HasBorders (lines ++ l ∷ [])) (sym c.in_ok-begin-in-Contour.ensures) (begins_contour lines (flat c.in-Contour.p) c.in-Contour.side c.in-Contour.points c.in-Contour.segments c.args.self.now h))
+    (subst (HasBorders (lines ++ l ∷ [])) (sym c.in_ok-begin-in-Contour.ensures)
+    (begins_contour lines (flat c.in-Contour.p) c.in-Contour.side c.in-Contour.points c.in-Contour.segments c.args.self.now h))
 
 pub returns-in_default : goal.returns-in_default
 returns-in_default c = λ lines h. other_line lines c.args.line.now c.args.self.now c.in_default.not-Contour c.in_default.not-At c.in_default.not-Seg h

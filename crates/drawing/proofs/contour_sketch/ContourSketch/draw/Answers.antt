@@ -10,4 +10,5 @@ returns c = λ lines h.
     let ss = ap all_strokes c.deref.ensures.value ∙ c.in_ok-strokes.ensures lines h.outlines in
     let contours = c.in_ok-put_contours.ensures ∙ ap (λ s. c.put_head.new.svg ++ contour_layer s) ss in
     let text = three _ _ _ _ _ _ _ c.in_ok-put_head.ensures contours c.in_ok-put.ensures in
-    c.into_text.ensures ∙ text ∙ ap (λ t. t ++ drawn_contours (sides_of (flat c.args.self.sides.lengths)) lines) c.new-svg.ensures ∙ ap (λ q. drawn_contours q lines) (sym h.given)
+    c.into_text.ensures ∙ text ∙ ap (λ t. t ++ drawn_contours (sides_of (flat c.args.self.sides.lengths)) lines) c.new-svg.ensures
+    ∙ ap (λ q. drawn_contours q lines) (sym h.given)

@@ -39,7 +39,14 @@ returns-in_ok-close-in-Contour c = λ lines h.
     let l = flat_line (Contour c.in-Contour.p c.in-Contour.side c.in-Contour.points c.in-Contour.segments) in
     let begun = begins_contour sides lines l c.args.self.now refl refl refl h in
     let kept = subst (λ (k : Outlines.Kept). HasOutlines sides (lines ++ l ∷ []) (record k { begun = true })) (sym e) begun in
-    let seen : Outlines.Kept = record { strokes = all_strokes c.self.inside.strokes.items; begun = true; points = flats c.self.inside.points.items; stretches = all_stretches c.self.inside.stretches.items } in
+    let seen : Outlines.Kept =
+    record {
+      strokes = all_strokes c.self.inside.strokes.items;
+      begun = true;
+      points = flats c.self.inside.points.items;
+      stretches =
+          all_stretches c.self.inside.stretches.items;
+    } in
     subst (λ (x : Line P2). HasOutlines sides (lines ++ flat_line x ∷ []) seen) (sym c.in-Contour.is) kept
 
 pub returns-in_default : goal.returns-in_default
@@ -60,4 +67,5 @@ returns-in_ok-add_stretch-in-Seg c = λ lines h.
     let k = c.add_stretch.new.self in
     let l = flat_line (Seg c.in-Seg.first c.in-Seg.last n) in
     subst (λ (x : Line P2). HasOutlines sides (lines ++ flat_line x ∷ []) k) (sym c.in-Seg.is)
-    (subst (HasOutlines sides (lines ++ l ∷ [])) (sym c.in_ok-add_stretch-in-Seg.ensures) (adds_stretch sides lines c.in-Seg.first c.in-Seg.last n.axis (take 2 n.a) n.mu c.args.self.now h))
+    (subst (HasOutlines sides (lines ++ l ∷ [])) (sym c.in_ok-add_stretch-in-Seg.ensures)
+    (adds_stretch sides lines c.in-Seg.first c.in-Seg.last n.axis (take 2 n.a) n.mu c.args.self.now h))

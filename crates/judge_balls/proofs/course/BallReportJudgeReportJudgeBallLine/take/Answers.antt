@@ -13,7 +13,8 @@ returns-clause-answer g c = λ X lines s. c.next.ensures.answer X (reached (cour
 pub returns-clause-stands : goal.returns-clause-stands
 returns-clause-stands g c = λ X lines s.
     let j = c.next.new.self in
-    subst (λ t. OnTrue c.next.result (Fits X j.state j.balls t)) (sym (reached_push (course X) lines (line_of g.P.Point.coords c.args.line.now))) (c.next.ensures.stands X (reached (course X) lines) s)
+    subst (λ t. OnTrue c.next.result (Fits X j.state j.balls t)) (sym (reached_push (course X) lines (line_of g.P.Point.coords c.args.line.now)))
+    (c.next.ensures.stands X (reached (course X) lines) s)
 
 pub returns-clause-room : goal.returns-clause-room
 returns-clause-room g c = c.next.ensures.room

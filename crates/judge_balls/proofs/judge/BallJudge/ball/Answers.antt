@@ -26,7 +26,8 @@ pub returns-clause-answer : goal.returns-clause-answer
 returns-clause-answer g c = λ X balls h.
     let j = c.args.self.now in
     let b = ball_by (g.P.Point.coords c.args.centre) (g.P.Point.coords c.args.near) c.args.s (g.P.Point.coords c.args.own) in (
-      (λ t. (tests_decide X balls j.covered j.own j.next h.1 b).0 (subst (λ (Y : Picture). PassesTests Y j.covered j.own j.next b) h.0 (c.passes.ensures.0 c.if-not-passes.false))),
+      (λ t. (tests_decide X balls j.covered j.own j.next h.1 b).0
+          (subst (λ (Y : Picture). PassesTests Y j.covered j.own j.next b) h.0 (c.passes.ensures.0 c.if-not-passes.false))),
       λ k. refl,
     )
 
@@ -38,11 +39,14 @@ returns-clause-stands g c = λ X balls h.
     let b = ball_by centre (g.P.Point.coords c.args.near) c.args.s own in
     let covered2 = c.mark_ball.new.marks in
     let claim = (returns-clause-answer g c X balls h).0 refl in
-    let e : sides_of (g.P.Point.coords c.sides-sides.result.lengths) ≡ X.sides = c.sides-sides.ensures.value ∙ ap (λ (Y : Picture). Y.sides) (c.grid.ensures ∙ h.0) in
+    let e : sides_of (g.P.Point.coords c.sides-sides.result.lengths) ≡ X.sides = c.sides-sides.ensures.value
+    ∙ ap (λ (Y : Picture). Y.sides) (c.grid.ensures ∙ h.0) in
     let own_is : c.raster.result ≡ raster_number X.sides own = c.raster.ensures.value ∙ ap (λ (ns : List ℕ). raster_number ns own) e in
     let now_own : c.set.new.self ≡ set j.own (raster_number X.sides own) true = c.set.ensures ∙ ap (λ (n : ℕ). set j.own n true) own_is in
     let centre_is : c.raster-2.result ≡ raster_number X.sides centre = c.raster-2.ensures.value ∙ ap (λ (ns : List ℕ). raster_number ns centre) e in
-    let marked = subst (λ (ns : List ℕ). (i : ℕ) → i < length j.covered → (is_marked covered2 i ≡ true) ↔ ((is_marked j.covered i ≡ true) ⊎ (is_nearer centre c.args.s (raster_point ns i) ≡ true))) e c.mark_ball.ensures.marked in
+    let marked = subst (λ (ns : List ℕ). (i : ℕ) → i < length j.covered
+    → (is_marked covered2 i ≡ true) ↔ ((is_marked j.covered i ≡ true) ⊎ (is_nearer centre c.args.s (raster_point ns i) ≡ true))) e
+    c.mark_ball.ensures.marked in
     let box = ap (λ (Y : Picture). box_count Y.sides) h.0 in
     let all = ball_taken X balls j.covered j.own j.next h.1 b claim covered2 (j.covered_filled ∙ box) (j.own_filled ∙ box) marked in (
       h.0,

@@ -9,4 +9,5 @@ returns-clause-cycles c = ap (λ (t : EdgeState). t.cycles) c.self.view_is
 pub returns-clause-next : goal.returns-clause-next
 returns-clause-next c =
     let i = c.self.inside in
-    ap (λ arcs. (state_of i.cycles (i.begun + 1) c.args.arcs arcs 0).standing) c.clear.ensures.items ∙ ap (λ (t : EdgeState). with_cycle t.standing c.args.arcs) c.self.view_is
+    ap (λ arcs. (state_of i.cycles (i.begun + 1) c.args.arcs arcs 0).standing) c.clear.ensures.items
+    ∙ ap (λ (t : EdgeState). with_cycle t.standing c.args.arcs) c.self.view_is

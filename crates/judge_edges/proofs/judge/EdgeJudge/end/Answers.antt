@@ -15,7 +15,8 @@ overflow_add-result c =
     let now = c.args.self.now in
     let same = same_open i.cycles s now c.self.view_is in
     let few : length (open_path now.cycles now.standing) ≤ most_round = rw c.open.ensures at c.is_corner_path.ensures.few in
-    let listed : c.args.k < length i.arcs.items = omega (arith, c.requires.place, ap (λ (t : EdgeState). length t.standing.stretches) c.self.view_is, length-map i.arcs.items stretch_of) in
+    let listed : c.args.k < length i.arcs.items =
+    omega (arith, c.requires.place, ap (λ (t : EdgeState). length t.standing.stretches) c.self.view_is, length-map i.arcs.items stretch_of) in
     let a = around_at stretch_of i.arcs.items c.args.k c.index.result.now (length (open_path i.cycles s)) c.self.invariant.0.around listed c.index.ensures in
     omega (arith, a.begins, a.short, few, ap length same)
 
@@ -24,7 +25,8 @@ returns-clause-within c =
     let i = c.self.inside in
     let s : Standing = record { begun = i.begun; declared = i.declared; stretches = map stretch_of i.arcs.items; gaps = i.gaps } in
     let same = same_open i.cycles s c.args.self.now c.self.view_is in
-    let listed : c.args.k < length i.arcs.items = omega (arith, c.requires.place, ap (λ (t : EdgeState). length t.standing.stretches) c.self.view_is, length-map i.arcs.items stretch_of) in
+    let listed : c.args.k < length i.arcs.items =
+    omega (arith, c.requires.place, ap (λ (t : EdgeState). length t.standing.stretches) c.self.view_is, length-map i.arcs.items stretch_of) in
     let a = around_at stretch_of i.arcs.items c.args.k c.index.result.now (length (open_path i.cycles s)) c.self.invariant.0.around listed c.index.ensures in
     omega (arith, a.begins, a.short, ap length same)
 
@@ -35,6 +37,7 @@ returns-clause-low c =
     let now = c.args.self.now in
     let same = same_open i.cycles s now c.self.view_is in
     let few : length (open_path now.cycles now.standing) ≤ most_round = rw c.open.ensures at c.is_corner_path.ensures.few in
-    let listed : c.args.k < length i.arcs.items = omega (arith, c.requires.place, ap (λ (t : EdgeState). length t.standing.stretches) c.self.view_is, length-map i.arcs.items stretch_of) in
+    let listed : c.args.k < length i.arcs.items =
+    omega (arith, c.requires.place, ap (λ (t : EdgeState). length t.standing.stretches) c.self.view_is, length-map i.arcs.items stretch_of) in
     let a = around_at stretch_of i.arcs.items c.args.k c.index.result.now (length (open_path i.cycles s)) c.self.invariant.0.around listed c.index.ensures in
     omega (arith, a.begins, a.short, few, ap length same)

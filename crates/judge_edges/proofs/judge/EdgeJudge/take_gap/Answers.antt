@@ -4,7 +4,7 @@ use Rattle.std.proofs.lemmas.List.{length-map}
 use Rattle.shape_terms.specs.Points.{Point}
 use Rattle.edge_terms.specs.EdgeEvidence.{IsEdgeEvidence}
 use Rattle.shape_terms.specs.Covers.{arc}
-use Rattle.edge_forms.specs.Gaps.{gap_of}
+use Rattle.judge_edges.specs.Gaps.{gap_of}
 use Rattle.edge_terms.specs.CycleLines.{Standing}
 use Rattle.judge_edges.specs.EdgeState.{EdgeState}
 use Rattle.shape_refute.specs.Places.{stretch_of}

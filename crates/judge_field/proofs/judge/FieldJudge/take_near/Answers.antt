@@ -16,13 +16,19 @@ not_false false e = cc
 pub returns-in_default-clause-answer : goal.returns-in_default-clause-answer
 returns-in_default-clause-answer g c =
     let i = c.self.inside in
-    λ lines s. (λ f. absurd (false≢true f), λ claim. absurd (none_is c.args.self.now i.scans i.objects i.next i.taken c.self.view_is c.self.invariant (rw c.grid-grid.ensures at c.in_default.ensures.next) lines s (g.P.Point.coords c.args.p) claim.0))
+    λ lines s. (
+      λ f. absurd (false≢true f),
+      λ claim. absurd (none_is c.args.self.now i.scans i.objects i.next i.taken c.self.view_is c.self.invariant
+          (rw c.grid-grid.ensures at c.in_default.ensures.next) lines s (g.P.Point.coords c.args.p) claim.0),
+    )
 
 pub returns-then-ne-clause-answer : goal.returns-then-ne-clause-answer
 returns-then-ne-clause-answer g c =
     let i = c.self.inside in
-    let next = next_is c.args.self.now i.scans i.objects i.next i.taken c.in-Some.i c.self.view_is c.self.invariant (rw c.grid-grid.ensures at c.in-Some.ensures.next) in
-    let point : g.P.Point.coords c.unraster-point.result ≡ raster_point i.scans.sides c.in-Some.i = c.unraster-point.ensures.value ∙ rw (c.sides.ensures.value, c.grid-grid.ensures) refl in
+    let next = next_is c.args.self.now i.scans i.objects i.next i.taken c.in-Some.i c.self.view_is c.self.invariant
+    (rw c.grid-grid.ensures at c.in-Some.ensures.next) in
+    let point : g.P.Point.coords c.unraster-point.result ≡ raster_point i.scans.sides c.in-Some.i = c.unraster-point.ensures.value
+    ∙ rw (c.sides.ensures.value, c.grid-grid.ensures) refl in
     λ lines s. (
       λ f. absurd (false≢true f),
       λ claim.
@@ -37,7 +43,8 @@ returns-then-ne-clause-answer g c =
 pub is_least-requires : goal.is_least-requires
 is_least-requires g c =
     let i = c.self.inside in
-    let is : g.P.Point.coords c.unraster-point.result ≡ raster_point i.scans.sides c.in-Some.i = c.unraster-point.ensures.value ∙ rw (c.sides.ensures.value, c.grid-grid.ensures) refl in
+    let is : g.P.Point.coords c.unraster-point.result ≡ raster_point i.scans.sides c.in-Some.i = c.unraster-point.ensures.value
+    ∙ rw (c.sides.ensures.value, c.grid-grid.ensures) refl in
     rw is (next_is_object i.scans i.next (raster_point i.scans.sides c.in-Some.i) _ (rw c.grid-grid.ensures at c.in-Some.ensures.next))
 
 pub invariant_of-self : goal.invariant_of-self
@@ -46,22 +53,30 @@ invariant_of-self g c =
     (next_left i.scans i.objects i.next i.taken c.in-Some.i c.self.invariant (rw c.grid-grid.ensures at c.in-Some.ensures.next)).1
 
 -- the line's claim, from what the tests found
-claim : (old : FieldState) (X : Picture) (lines : List Terms.Line) (p p2 q r : Point) (s : ℕ) → old.picture ≡ X → p ≡ p2 → p2 ≡ r → slice_get (object_points old.picture) (length lines) ≡ Some r → Least X p2 q s → NearClaim old.picture lines (Terms.Line.Near p q s)
+claim : (old : FieldState) (X : Picture) (lines : List Terms.Line) (p p2 q r : Point) (s : ℕ) → old.picture ≡ X → p ≡ p2 → p2 ≡ r
+    → slice_get (object_points old.picture) (length lines) ≡ Some r → Least X p2 q s → NearClaim old.picture lines (Terms.Line.Near p q s)
 claim old X lines p p2 q r s same e f at least = (at ∙ ap Some (sym (e ∙ f)), rw (same, e) least)
 
 pub returns-clause-answer : goal.returns-clause-answer
 returns-clause-answer g c =
     let i = c.self.inside in
     let point = c.unraster-point.result in
-    let next = next_is c.args.self.now i.scans i.objects i.next i.taken c.in-Some.i c.self.view_is c.self.invariant (rw c.grid-grid.ensures at c.in-Some.ensures.next) in
-    let is : g.P.Point.coords point ≡ raster_point i.scans.sides c.in-Some.i = c.unraster-point.ensures.value ∙ rw (c.sides.ensures.value, c.grid-grid.ensures) refl in
+    let next = next_is c.args.self.now i.scans i.objects i.next i.taken c.in-Some.i c.self.view_is c.self.invariant
+    (rw c.grid-grid.ensures at c.in-Some.ensures.next) in
+    let is : g.P.Point.coords point ≡ raster_point i.scans.sides c.in-Some.i = c.unraster-point.ensures.value
+    ∙ rw (c.sides.ensures.value, c.grid-grid.ensures) refl in
     let same = ap g.P.Point.coords (g.met.P.Point.equal c.args.p point (not_false _ c.if-ne.ensures)) in
     let picture = ap (λ (t : FieldState). t.picture) (sym c.self.view_is) in
     let least = c.is_least.ensures.0 c.if-not-is_least.false in
-    λ lines s. (λ t. claim c.args.self.now i.scans lines (g.P.Point.coords c.args.p) (g.P.Point.coords point) (g.P.Point.coords c.args.q) (raster_point i.scans.sides c.in-Some.i) c.args.s picture same is (next lines s) least, λ h. refl)
+    λ lines s. (
+      λ t. claim c.args.self.now i.scans lines (g.P.Point.coords c.args.p) (g.P.Point.coords point) (g.P.Point.coords c.args.q)
+          (raster_point i.scans.sides c.in-Some.i) c.args.s picture same is (next lines s) least,
+      λ h. refl,
+    )
 
 pub returns-clause-stands : goal.returns-clause-stands
 returns-clause-stands g c =
     let i = c.self.inside in
     let l = Terms.Line.Near (g.P.Point.coords c.args.p) (g.P.Point.coords c.args.q) c.args.s in
-    λ lines s. stands_push c.args.self.now (record { picture = i.scans; taken = i.taken + 1 }) lines l (ap (λ (t : FieldState). t.picture) c.self.view_is) (ap (λ (t : FieldState). t.taken + 1) c.self.view_is) s ((returns-clause-answer g c lines s).0 refl)
+    λ lines s. stands_push c.args.self.now (record { picture = i.scans; taken = i.taken + 1 }) lines l (ap (λ (t : FieldState). t.picture) c.self.view_is)
+    (ap (λ (t : FieldState). t.taken + 1) c.self.view_is) s ((returns-clause-answer g c lines s).0 refl)

@@ -4,7 +4,8 @@ use Rattle.shape_report.specs.LineOf.{line_of}
 use Rattle.report_lines.specs.Standing.{HasRisenTo}
 use Rattle.report_lines.proofs.Order.{too_early, behind_end, comes_next, risen_more}
 use Rattle.report_lines.proofs.ordered.OrderedReportJudgeLine.take.Goals as goal
-use Rattle.report_lines.proofs.ordered.OrderedReportJudgeLine.take.Goals.{then-rank-self-via-then-rank-self, then-rank-self-via-else-rank-self+then-self-eq-LAST}
+use Rattle.report_lines.proofs.ordered.OrderedReportJudgeLine.take.Goals.{then-rank-self-via-then-rank-self}
+use Rattle.report_lines.proofs.ordered.OrderedReportJudgeLine.take.Goals.{then-rank-self-via-else-rank-self+then-self-eq-LAST}
 
 pub returns-then-rank-self-clause-answer : goal.returns-then-rank-self-clause-answer
 returns-then-rank-self-clause-answer g c = λ u lines s.
@@ -28,6 +29,7 @@ returns-clause-stands g c = λ u lines s.
     let r = c.args.self.now.rank in
     let l = line_of g.P.Point.coords c.args.line.now in
     record {
-      come = subst (λ n. HasRisenTo n (lines ++ l ∷ [])) (sym c.rank-rank.ensures) (risen_more r lines s.come l (subst (λ n. r ≤ n) c.rank-rank.ensures c.if-rank-self.false));
+      come = subst (λ n. HasRisenTo n (lines ++ l ∷ [])) (sym c.rank-rank.ensures)
+          (risen_more r lines s.come l (subst (λ n. r ≤ n) c.rank-rank.ensures c.if-rank-self.false));
       sketch_is = c.in_ok-take.ensures lines s.sketch_is;
     }

@@ -22,6 +22,7 @@ returns g c =
     let d = c.in_ok-deleted.ensures ∙ picture_blank sides (is_deleted []) (λ p. refl) in
     let l = c.in_ok-left.ensures ∙ picture_blank sides (is_left []) (λ p. refl) in
     let n = length-map (coords h.sides.lengths) nat_abs ∙ g.met.P.Point.axes h.sides.lengths in
-    let some : 0 < length (given_sides (line_of coords h.line ∷ [])) = omega (arith, n, some_axes g.P.Point.DIM g.met.P.Point.two_or_three, ap length h.given) in
+    let some : 0 < length (given_sides (line_of coords h.line ∷ [])) = omega (arith, n, some_axes g.P.Point.DIM g.met.P.Point.two_or_three, ap length h.given)
+    in
     (λ i. record { object = o i; squares = s i; deleted = d i; left = l i })
     ∙ sym (said_first sides (line_of coords h.line) (heading_quiet (line_of coords h.line) some) h.given)

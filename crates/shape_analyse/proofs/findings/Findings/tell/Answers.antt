@@ -20,9 +20,11 @@ returns g c = λ X names rules which name begun are there start.
     let by = mine.by in
     let aim = aim_of Y rules (word_of f.rule) by in
     let nears = c.tell_beginning.ensures rules by begun mine.on_shelf (record { text = []; so = refl; telling = start }) in
-    let told = subst (λ t. TellsMore t c.tell_beginning.new.page c.text-2.new.self (state c.tell_beginning.new.desk) (state c.text-2.new.desk)) c.text.ensures c.text-2.ensures in
+    let told = subst (λ t. TellsMore t c.tell_beginning.new.page c.text-2.new.self (state c.tell_beginning.new.desk) (state c.text-2.new.desk)) c.text.ensures
+    c.text-2.ensures in
     let surveyed = tells_more f.outline.lines told (λ text h. found.outline rules (word_of f.rule) by text h) nears in
     let counts = found.kept (length (object_points Y)) f.counted.object f.counted.background found.counts in
     let whole = c.tell_thinning.ensures aim mine.thinned.stage begun mine.thinned.thinning mine.thinned.left counts surveyed in
-    let about = subst (λ Z. Tells (IsReportBy (subject_of Z rules) (word_of f.rule)) begun c.tell_thinning.new.page (state c.tell_thinning.new.desk)) mine.about whole in
+    let about = subst (λ Z. Tells (IsReportBy (subject_of Z rules) (word_of f.rule)) begun c.tell_thinning.new.page (state c.tell_thinning.new.desk)) mine.about
+    whole in
     tells_as (λ text r. renamed (subject_of X rules) _ _ text (sym mine.named ∙ there) r) about

@@ -14,4 +14,5 @@ returns-in-Some g c = some_read g.T.Cell.bare c.self.inside.objects c.self.insid
 
 pub returns-in-None : goal.returns-in-None
 returns-in-None g c =
-    none_read g.T.Cell.bare c.self.inside.objects c.self.inside.cells.items c.self.view_is c.in-None.is c.args.place c.index.result.now c.requires c.index.ensures
+    none_read g.T.Cell.bare c.self.inside.objects c.self.inside.cells.items c.self.view_is c.in-None.is c.args.place c.index.result.now c.requires
+    c.index.ensures

@@ -1,6 +1,6 @@
 use Rattle.std.proofs.Common.{◌≡◌, true, false, refl, sym, ◌∙◌, ap, not}
-use Rattle.thin_steps.specs.Fronts.{reach_of}
-use Rattle.thin_steps.specs.Standing.{key_of}
+use Rattle.shape_thin.specs.Fronts.{reach_of}
+use Rattle.shape_thin.specs.Standing.{key_of}
 use Rattle.shape_check.proofs.EventsFollowed.{none_next, next_is, not_false, same_truth, other_truth}
 use Rattle.shape_check.proofs.events.ThinJudge.event.Goals as goal
 

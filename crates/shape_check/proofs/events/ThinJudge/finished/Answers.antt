@@ -2,8 +2,8 @@ use Rattle.std.proofs.Common.{◌≡◌, true, false, Bool, refl, not}
 use Rattle.std.specs.Prelude.{◌↔◌, MatchOption, is_some, IsTrue}
 use Rattle.std.specs.declared.option.Option.{Option}
 use Rattle.std.specs.declared.option.Option.TheVariants.{None, Some}
-use Rattle.thin_steps.specs.Fronts.{reach_of}
-use Rattle.thin_steps.specs.Standing.{key_of}
+use Rattle.shape_thin.specs.Fronts.{reach_of}
+use Rattle.shape_thin.specs.Standing.{key_of}
 use Rattle.shape_check.proofs.EventsFollowed.{all_of_none, not_all}
 use Rattle.shape_check.proofs.events.ThinJudge.finished.Goals as goal
 

@@ -1,7 +1,7 @@
 use Rattle.std.proofs.Common.{length, sym, ◌∙◌, ap}
 use Rattle.shape_terms.specs.Pictures.{Picture, object_points}
 use Rattle.shape_terms.specs.Thinning.{Stage}
-use Rattle.thin_steps.specs.Fronts.{reach_of}
+use Rattle.shape_thin.specs.Fronts.{reach_of}
 use Rattle.shape_check.proofs.EventsFollowed.{same_stage}
 use Rattle.shape_check.proofs.events.ThinJudge.left.Goals as goal
 

@@ -1,52 +1,29 @@
-use Rattle.std.proofs.Common.{◌/◌, ◌%◌, refl, slice_index}
-use Rattle.shape_grid.proofs.WordSteps.{bit_filled, filled_if}
-use Rattle.shape_grid.proofs.LevelSteps.{sums_kept, sums_in, levels_of}
+use Rattle.std.proofs.Common.{◌≡◌, ◌*◌, ◌<◌, length, sym, subst}
+use Rattle.std.specs.Prelude.{Some}
+use Rattle.shape_grid.specs.Sets.{bit_of, IsPut}
+use Rattle.shape_grid.specs.Hands.{with_hand, IsHeldApart, IsApart}
+use Rattle.shape_grid.proofs.WordSteps.{put_one}
+use Rattle.shape_grid.proofs.HandSteps.{put_again, hand_in, kept_by}
 use Rattle.shape_grid.proofs.numbers.Numbers.insert.Goals as goal
 
-pub invariant_of-self : goal.invariant_of-self
-invariant_of-self c =
-    let l = c.self.invariant in
+pub returns-in-Some : goal.returns-in-Some
+returns-in-Some c =
     let s = c.self.inside in
-    let filled_0 = bit_filled (slice_index c.put_in.new.words.items (c.args.i / 64)) (c.args.i % 64) c.put_in.ensures.put.here in
-    let filled_1 = bit_filled (slice_index c.put_in-then-put_in.new.words.items (c.args.i / 64 / 64)) ((c.args.i / 64) % 64) c.put_in-then-put_in.ensures.put.here in
-    let filled_2 = bit_filled (slice_index c.put_in-then-put_in-2.new.words.items (c.args.i / 64 / 64 / 64)) ((c.args.i / 64 / 64) % 64) c.put_in-then-put_in-2.ensures.put.here in
-    levels_of s.base.items s.first.items s.second.items s.top.items c.put_in.new.words.items c.put_in-then-put_in.new.words.items c.put_in-then-put_in-2.new.words.items c.put_in-then-put_in-3.new.words.items l c.put_in.ensures.put.room c.put_in-then-put_in.ensures.put.room c.put_in-then-put_in-2.ensures.put.room c.put_in-then-put_in-3.ensures.put.room
-    (sums_in s.first.items s.base.items c.put_in.new.words.items c.args.i 1 l.first_sums c.put_in.ensures.put c.put_in-then-put_in.new.words.items c.put_in-then-put_in.ensures.put filled_0)
-    (sums_in s.second.items s.first.items c.put_in-then-put_in.new.words.items (c.args.i / 64) 1 l.second_sums c.put_in-then-put_in.ensures.put c.put_in-then-put_in-2.new.words.items c.put_in-then-put_in-2.ensures.put filled_1)
-    (sums_in s.top.items s.second.items c.put_in-then-put_in-2.new.words.items (c.args.i / 64 / 64) 1 l.top_sums c.put_in-then-put_in-2.ensures.put c.put_in-then-put_in-3.new.words.items c.put_in-then-put_in-3.ensures.put filled_2)
+    let now = c.args.self.now in
+    let v : with_hand (Some c.in-Some.h) s.levels ≡ now = subst (λ o. with_hand o s.levels ≡ now) c.in-Some.is c.self.view_is in
+    let a : IsHeldApart s.levels c.in-Some.h = subst (λ o. IsApart o s.levels) c.in-Some.is c.self.invariant in
+    let there : bit_of now c.in-Some.h ≡ 1 = subst (λ w. bit_of w c.in-Some.h ≡ 1) v (hand_in s.levels c.in-Some.h a).here in
+    put_again now c.args.i 1 (subst (λ k. bit_of now k ≡ 1) c.if-h-i.true there)
 
-pub invariant_of-self-else-put_in-3 : goal.invariant_of-self-else-put_in-3
-invariant_of-self-else-put_in-3 c =
-    let l = c.self.invariant in
+pub returns-in-Some-2 : goal.returns-in-Some-2
+returns-in-Some-2 c =
     let s = c.self.inside in
-    let filled_0 = bit_filled (slice_index c.put_in.new.words.items (c.args.i / 64)) (c.args.i % 64) c.put_in.ensures.put.here in
-    let filled_1 = bit_filled (slice_index c.put_in-then-put_in.new.words.items (c.args.i / 64 / 64)) ((c.args.i / 64) % 64) c.put_in-then-put_in.ensures.put.here in
-    let filled_2 = bit_filled (slice_index c.put_in-then-put_in-2.new.words.items (c.args.i / 64 / 64 / 64)) ((c.args.i / 64 / 64) % 64) c.put_in-then-put_in-2.ensures.put.here in
-    let was = filled_if c.put_in-then-put_in-2.result (slice_index s.second.items (c.args.i / 64 / 64 / 64)) c.put_in-then-put_in-2.ensures.was c.if-put_in-3.false in
-    levels_of s.base.items s.first.items s.second.items s.top.items c.put_in.new.words.items c.put_in-then-put_in.new.words.items c.put_in-then-put_in-2.new.words.items s.top.items l c.put_in.ensures.put.room c.put_in-then-put_in.ensures.put.room c.put_in-then-put_in-2.ensures.put.room refl
-    (sums_in s.first.items s.base.items c.put_in.new.words.items c.args.i 1 l.first_sums c.put_in.ensures.put c.put_in-then-put_in.new.words.items c.put_in-then-put_in.ensures.put filled_0)
-    (sums_in s.second.items s.first.items c.put_in-then-put_in.new.words.items (c.args.i / 64) 1 l.second_sums c.put_in-then-put_in.ensures.put c.put_in-then-put_in-2.new.words.items c.put_in-then-put_in-2.ensures.put filled_1)
-    (sums_kept s.top.items s.second.items c.put_in-then-put_in-2.new.words.items (c.args.i / 64 / 64) 1 l.top_sums c.put_in-then-put_in-2.ensures.put was filled_2)
+    subst (λ w. IsPut w (with_hand s.hand c.insert.new.self) c.args.i 1) c.self.view_is
+    (kept_by s.hand s.levels c.insert.new.self c.in-Some.h c.args.i 1 c.in-Some.is c.if-h-i.false c.self.invariant c.insert.ensures)
 
-pub invariant_of-self-else-put_in-2 : goal.invariant_of-self-else-put_in-2
-invariant_of-self-else-put_in-2 c =
-    let l = c.self.invariant in
+pub returns-then-not-has : goal.returns-then-not-has
+returns-then-not-has c =
     let s = c.self.inside in
-    let filled_0 = bit_filled (slice_index c.put_in.new.words.items (c.args.i / 64)) (c.args.i % 64) c.put_in.ensures.put.here in
-    let filled_1 = bit_filled (slice_index c.put_in-then-put_in.new.words.items (c.args.i / 64 / 64)) ((c.args.i / 64) % 64) c.put_in-then-put_in.ensures.put.here in
-    let was = filled_if c.put_in-then-put_in.result (slice_index s.first.items (c.args.i / 64 / 64)) c.put_in-then-put_in.ensures.was c.if-put_in-2.false in
-    levels_of s.base.items s.first.items s.second.items s.top.items c.put_in.new.words.items c.put_in-then-put_in.new.words.items s.second.items s.top.items l c.put_in.ensures.put.room c.put_in-then-put_in.ensures.put.room refl refl
-    (sums_in s.first.items s.base.items c.put_in.new.words.items c.args.i 1 l.first_sums c.put_in.ensures.put c.put_in-then-put_in.new.words.items c.put_in-then-put_in.ensures.put filled_0)
-    (sums_kept s.second.items s.first.items c.put_in-then-put_in.new.words.items (c.args.i / 64) 1 l.second_sums c.put_in-then-put_in.ensures.put was filled_1)
-    l.top_sums
-
-pub invariant_of-self-else-put_in : goal.invariant_of-self-else-put_in
-invariant_of-self-else-put_in c =
-    let l = c.self.invariant in
-    let s = c.self.inside in
-    let filled_0 = bit_filled (slice_index c.put_in.new.words.items (c.args.i / 64)) (c.args.i % 64) c.put_in.ensures.put.here in
-    let was = filled_if c.put_in.result (slice_index s.base.items (c.args.i / 64)) c.put_in.ensures.was c.if-put_in.false in
-    levels_of s.base.items s.first.items s.second.items s.top.items c.put_in.new.words.items s.first.items s.second.items s.top.items l c.put_in.ensures.put.room refl refl refl
-    (sums_kept s.first.items s.base.items c.put_in.new.words.items c.args.i 1 l.first_sums c.put_in.ensures.put was filled_0)
-    l.second_sums
-    l.top_sums
+    let v : s.levels ≡ c.args.self.now = subst (λ o. with_hand o s.levels ≡ c.args.self.now) c.in-None.is c.self.view_is in
+    let room : c.args.i < 64 * length s.levels = subst (λ w. c.args.i < 64 * length w) (sym v) c.requires in
+    subst (λ w. IsPut w (with_hand (Some c.args.i) s.levels) c.args.i 1) v (put_one s.levels c.args.i room)

@@ -1,49 +1,24 @@
-use Rattle.std.proofs.Common.{◌<◌, ◌/◌, refl, arith, slice_index}
-use Rattle.shape_grid.proofs.WordSteps.{filled_if}
-use Rattle.shape_grid.proofs.LevelSteps.{sums_kept, sums_out, levels_of}
+use Rattle.std.proofs.Common.{◌≡◌, subst}
+use Rattle.std.specs.Prelude.{Some}
+use Rattle.shape_grid.specs.Sets.{IsPut}
+use Rattle.shape_grid.specs.Hands.{with_hand, IsHeldApart, IsApart}
+use Rattle.shape_grid.proofs.HandSteps.{hand_out, kept_by, kept_alone}
+use Rattle.shape_grid.proofs.numbers.Numbers.remove.Goals.{in_default-via-in-Some+else-h-i, in_default-via-in_default}
 use Rattle.shape_grid.proofs.numbers.Numbers.remove.Goals as goal
 
-pub invariant_of-self : goal.invariant_of-self
-invariant_of-self c =
-    let l = c.self.invariant in
+pub returns-in-Some : goal.returns-in-Some
+returns-in-Some c =
     let s = c.self.inside in
-    levels_of s.base.items s.first.items s.second.items s.top.items c.take_out.new.words.items c.take_out-then-take_out.new.words.items c.take_out-then-take_out-2.new.words.items c.take_out-then-take_out-3.new.words.items l c.take_out.ensures.put.room c.take_out-then-take_out.ensures.put.room c.take_out-then-take_out-2.ensures.put.room c.take_out-then-take_out-3.ensures.put.room
-    (sums_out s.first.items s.base.items c.take_out.new.words.items c.args.i 0 l.first_sums c.take_out.ensures.put c.take_out-then-take_out.new.words.items c.take_out-then-take_out.ensures.put (c.take_out.ensures.is.0 c.if-take_out.true))
-    (sums_out s.second.items s.first.items c.take_out-then-take_out.new.words.items (c.args.i / 64) 0 l.second_sums c.take_out-then-take_out.ensures.put c.take_out-then-take_out-2.new.words.items c.take_out-then-take_out-2.ensures.put (c.take_out-then-take_out.ensures.is.0 c.if-take_out-2.true))
-    (sums_out s.top.items s.second.items c.take_out-then-take_out-2.new.words.items (c.args.i / 64 / 64) 0 l.top_sums c.take_out-then-take_out-2.ensures.put c.take_out-then-take_out-3.new.words.items c.take_out-then-take_out-3.ensures.put (c.take_out-then-take_out-2.ensures.is.0 c.if-take_out-3.true))
+    let v : with_hand (Some c.in-Some.h) s.levels ≡ c.args.self.now = subst (λ o. with_hand o s.levels ≡ c.args.self.now) c.in-Some.is c.self.view_is in
+    let a : IsHeldApart s.levels c.in-Some.h = subst (λ o. IsApart o s.levels) c.in-Some.is c.self.invariant in
+    subst (λ i. IsPut c.args.self.now s.levels i 0) c.if-h-i.true (subst (λ w. IsPut w s.levels c.in-Some.h 0) v (hand_out s.levels c.in-Some.h a))
 
-pub invariant_of-self-else-take_out-3 : goal.invariant_of-self-else-take_out-3
-invariant_of-self-else-take_out-3 c =
-    let l = c.self.invariant in
+pub returns-in_default : goal.returns-in_default
+returns-in_default c =
     let s = c.self.inside in
-    let is = filled_if c.take_out-then-take_out-2.result (slice_index c.take_out-then-take_out-2.new.words.items (c.args.i / 64 / 64 / 64)) c.take_out-then-take_out-2.ensures.is c.if-take_out-3.false in
-    let less = c.take_out-then-take_out-2.ensures.less in
-    let was : 0 < slice_index s.second.items (c.args.i / 64 / 64 / 64) = omega arith in
-    levels_of s.base.items s.first.items s.second.items s.top.items c.take_out.new.words.items c.take_out-then-take_out.new.words.items c.take_out-then-take_out-2.new.words.items s.top.items l c.take_out.ensures.put.room c.take_out-then-take_out.ensures.put.room c.take_out-then-take_out-2.ensures.put.room refl
-    (sums_out s.first.items s.base.items c.take_out.new.words.items c.args.i 0 l.first_sums c.take_out.ensures.put c.take_out-then-take_out.new.words.items c.take_out-then-take_out.ensures.put (c.take_out.ensures.is.0 c.if-take_out.true))
-    (sums_out s.second.items s.first.items c.take_out-then-take_out.new.words.items (c.args.i / 64) 0 l.second_sums c.take_out-then-take_out.ensures.put c.take_out-then-take_out-2.new.words.items c.take_out-then-take_out-2.ensures.put (c.take_out-then-take_out.ensures.is.0 c.if-take_out-2.true))
-    (sums_kept s.top.items s.second.items c.take_out-then-take_out-2.new.words.items (c.args.i / 64 / 64) 0 l.top_sums c.take_out-then-take_out-2.ensures.put was is)
-
-pub invariant_of-self-else-take_out-2 : goal.invariant_of-self-else-take_out-2
-invariant_of-self-else-take_out-2 c =
-    let l = c.self.invariant in
-    let s = c.self.inside in
-    let is = filled_if c.take_out-then-take_out.result (slice_index c.take_out-then-take_out.new.words.items (c.args.i / 64 / 64)) c.take_out-then-take_out.ensures.is c.if-take_out-2.false in
-    let less = c.take_out-then-take_out.ensures.less in
-    let was : 0 < slice_index s.first.items (c.args.i / 64 / 64) = omega arith in
-    levels_of s.base.items s.first.items s.second.items s.top.items c.take_out.new.words.items c.take_out-then-take_out.new.words.items s.second.items s.top.items l c.take_out.ensures.put.room c.take_out-then-take_out.ensures.put.room refl refl
-    (sums_out s.first.items s.base.items c.take_out.new.words.items c.args.i 0 l.first_sums c.take_out.ensures.put c.take_out-then-take_out.new.words.items c.take_out-then-take_out.ensures.put (c.take_out.ensures.is.0 c.if-take_out.true))
-    (sums_kept s.second.items s.first.items c.take_out-then-take_out.new.words.items (c.args.i / 64) 0 l.second_sums c.take_out-then-take_out.ensures.put was is)
-    l.top_sums
-
-pub invariant_of-self-else-take_out : goal.invariant_of-self-else-take_out
-invariant_of-self-else-take_out c =
-    let l = c.self.invariant in
-    let s = c.self.inside in
-    let is = filled_if c.take_out.result (slice_index c.take_out.new.words.items (c.args.i / 64)) c.take_out.ensures.is c.if-take_out.false in
-    let less = c.take_out.ensures.less in
-    let was : 0 < slice_index s.base.items (c.args.i / 64) = omega arith in
-    levels_of s.base.items s.first.items s.second.items s.top.items c.take_out.new.words.items s.first.items s.second.items s.top.items l c.take_out.ensures.put.room refl refl refl
-    (sums_kept s.first.items s.base.items c.take_out.new.words.items c.args.i 0 l.first_sums c.take_out.ensures.put was is)
-    l.second_sums
-    l.top_sums
+    subst (λ w. IsPut w (with_hand s.hand c.remove.new.self) c.args.i 0) c.self.view_is
+    (elim c.in_default.branch [
+      | in_default-via-in-Some+else-h-i w ↦
+          kept_by s.hand s.levels c.remove.new.self w.in-Some.h c.args.i 0 w.in-Some.is w.if-h-i.false c.self.invariant c.remove.ensures
+      | in_default-via-in_default w ↦ kept_alone s.hand s.levels c.remove.new.self c.args.i 0 w.in_default.is c.remove.ensures
+    ])

@@ -36,5 +36,7 @@ returns c =
     let few = c.count-n.ensures.small in
     let many = c.count-n.ensures.value in
     let small = c.room-up.ensures.small in
-    crosses s.axis s.sense _ (points_with s c.args.p) s.grown.axis (whole_flat s c.args.p r.next) (whole_place s c.args.p r.next) _ _ _ _ _ _ _ _ r.at_a.stands r.at_b.stands r.at_c.stands r.at_d.stands r.lower r.upper _
-    c.place.ensures.value c.place-2.ensures.value c.place-3.ensures.value c.place-4.ensures.value up (omega (arith, small)) (omega (arith, few, many, length-append (points_of s) (flat_point c.args.p ∷ [])))
+    crosses s.axis s.sense _ (points_with s c.args.p) s.grown.axis (whole_flat s c.args.p r.next) (whole_place s c.args.p r.next) _ _ _ _ _ _ _ _ r.at_a.stands
+    r.at_b.stands r.at_c.stands r.at_d.stands r.lower r.upper _
+    c.place.ensures.value c.place-2.ensures.value c.place-3.ensures.value c.place-4.ensures.value up (omega (arith, small))
+    (omega (arith, few, many, length-append (points_of s) (flat_point c.args.p ∷ [])))

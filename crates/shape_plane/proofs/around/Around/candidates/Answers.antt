@@ -30,7 +30,8 @@ returns-in-Some g c =
     let sides = sides_of (g.P.Point.coords c.args.self.now.near.now.sides.lengths) in
     masked g.P.Pairing.NEAR_COUNT c.args.left.now sides p c.in-Some.i c.mask.result c.requires w.is
     (g.met.P.Pairing.near_total ∙ ap near_total (sym (g.met.P.Point.axes c.args.self.now.point)))
-    (subst (λ (v : List Bool). IsNearMask (record { sides = sides; values = v }) (raster_point sides c.in-Some.i) c.mask.result) c.values.ensures c.mask.ensures)
+    (subst (λ (v : List Bool). IsNearMask (record { sides = sides; values = v }) (raster_point sides c.in-Some.i) c.mask.result) c.values.ensures
+    c.mask.ensures)
 
 pub returns-in-None : goal.returns-in-None
 returns-in-None g c =

@@ -11,65 +11,90 @@ use Rattle.shape_plane.proofs.growing.Growing.add_by.Goals as goal
 
 pub invariant_of-self-in-Flat : goal.invariant_of-self-in-Flat
 invariant_of-self-in-Flat g c =
-    let x = extended_flat g.P.Point.coords g.P.Point.DIM c.self.inside.axis c.self.inside.points.items c.extend.new.points.items c.args.p c.in_ok-held.field-0 c.in-Flat.held c.in-Flat.is c.in_ok-held.ensures.extended in
-    let e : map g.P.Point.coords c.extend.new.points.items ≡ map g.P.Point.coords c.self.inside.points.items ++ g.P.Point.coords c.args.p ∷ [] = ap (map g.P.Point.coords) x.0 ∙ one_more g.P.Point.coords c.self.inside.points.items c.args.p in
+    let x = extended_flat g.P.Point.coords g.P.Point.DIM c.self.inside.axis c.self.inside.points.items c.extend.new.points.items c.args.p c.in_ok-held.field-0
+    c.in-Flat.held c.in-Flat.is c.in_ok-held.ensures.extended in
+    let e : map g.P.Point.coords c.extend.new.points.items ≡ map g.P.Point.coords c.self.inside.points.items ++ g.P.Point.coords c.args.p ∷ [] =
+    ap (map g.P.Point.coords) x.0 ∙ one_more g.P.Point.coords c.self.inside.points.items c.args.p in
     let few : length (map g.P.Point.coords c.self.inside.points.items) < 2 ^ 31 - 1 = rw (ap (λ (v : Grown). length v.points) c.self.view_is) c.requires.few in
-    grows_found g.P.Point.DIM g.P.Point.MAX_SIDE c.self.inside.axis (map g.P.Point.coords c.self.inside.points.items) (map g.P.Point.coords c.extend.new.points.items) (g.P.Point.coords c.args.p) c.self.inside.known c.extend.new.known c.self.inside.held c.in-Flat.held
-    c.self.invariant c.requires.inside few e (subst (λ (n : ℕ). AreRowsOf n c.self.inside.axis (map g.P.Point.coords c.extend.new.points.items) c.extend.new.known) (sym (length-map c.extend.new.points.items g.P.Point.coords)) c.extend.ensures.known) x.1
+    grows_found g.P.Point.DIM g.P.Point.MAX_SIDE c.self.inside.axis (map g.P.Point.coords c.self.inside.points.items)
+    (map g.P.Point.coords c.extend.new.points.items) (g.P.Point.coords c.args.p) c.self.inside.known c.extend.new.known c.self.inside.held c.in-Flat.held
+    c.self.invariant c.requires.inside few e
+    (subst (λ (n : ℕ). AreRowsOf n c.self.inside.axis (map g.P.Point.coords c.extend.new.points.items) c.extend.new.known)
+    (sym (length-map c.extend.new.points.items g.P.Point.coords)) c.extend.ensures.known) x.1
 
 pub invariant_of-self-in-Refused : goal.invariant_of-self-in-Refused
 invariant_of-self-in-Refused g c =
-    let x = extended_refused g.P.Point.coords g.P.Point.DIM c.self.inside.axis c.self.inside.points.items c.extend.new.points.items c.args.p c.in_ok-held.field-0 c.in-Refused.why c.in-Refused.is c.in_ok-held.ensures.extended in
-    grows_kept g.P.Point.DIM g.P.Point.MAX_SIDE c.self.inside.axis (map g.P.Point.coords c.self.inside.points.items) (map g.P.Point.coords c.extend.new.points.items) c.self.inside.known c.extend.new.known c.self.inside.held
-    c.self.invariant (ap (map g.P.Point.coords) x.0) (subst (λ (n : ℕ). AreRowsOf n c.self.inside.axis (map g.P.Point.coords c.extend.new.points.items) c.extend.new.known) (sym (length-map c.extend.new.points.items g.P.Point.coords)) c.extend.ensures.known)
+    let x = extended_refused g.P.Point.coords g.P.Point.DIM c.self.inside.axis c.self.inside.points.items c.extend.new.points.items c.args.p
+    c.in_ok-held.field-0 c.in-Refused.why c.in-Refused.is c.in_ok-held.ensures.extended in
+    grows_kept g.P.Point.DIM g.P.Point.MAX_SIDE c.self.inside.axis (map g.P.Point.coords c.self.inside.points.items)
+    (map g.P.Point.coords c.extend.new.points.items) c.self.inside.known c.extend.new.known c.self.inside.held
+    c.self.invariant (ap (map g.P.Point.coords) x.0)
+    (subst (λ (n : ℕ). AreRowsOf n c.self.inside.axis (map g.P.Point.coords c.extend.new.points.items) c.extend.new.known)
+    (sym (length-map c.extend.new.points.items g.P.Point.coords)) c.extend.ensures.known)
 
 pub returns-in-Flat-clause-exactly : goal.returns-in-Flat-clause-exactly
 returns-in-Flat-clause-exactly g c =
-    let x = extended_flat g.P.Point.coords g.P.Point.DIM c.self.inside.axis c.self.inside.points.items c.extend.new.points.items c.args.p c.in_ok-held.field-0 c.in-Flat.held c.in-Flat.is c.in_ok-held.ensures.extended in
-    let e : map g.P.Point.coords c.extend.new.points.items ≡ map g.P.Point.coords c.self.inside.points.items ++ g.P.Point.coords c.args.p ∷ [] = ap (map g.P.Point.coords) x.0 ∙ one_more g.P.Point.coords c.self.inside.points.items c.args.p in
+    let x = extended_flat g.P.Point.coords g.P.Point.DIM c.self.inside.axis c.self.inside.points.items c.extend.new.points.items c.args.p c.in_ok-held.field-0
+    c.in-Flat.held c.in-Flat.is c.in_ok-held.ensures.extended in
+    let e : map g.P.Point.coords c.extend.new.points.items ≡ map g.P.Point.coords c.self.inside.points.items ++ g.P.Point.coords c.args.p ∷ [] =
+    ap (map g.P.Point.coords) x.0 ∙ one_more g.P.Point.coords c.self.inside.points.items c.args.p in
     subst (λ (v : Grown). IsTrue true ↔ IsFlatFor v.axis (v.points ++ g.P.Point.coords c.args.p ∷ [])) c.self.view_is
     (is_flat g.P.Point.DIM c.self.inside.axis (map g.P.Point.coords c.self.inside.points.items ++ g.P.Point.coords c.args.p ∷ []) c.in-Flat.held.plane
     (subst (λ (l : List Point). IsHeld g.P.Point.DIM c.self.inside.axis l c.in-Flat.held.plane) e x.1.held))
 
 pub returns-in-Refused-clause-exactly : goal.returns-in-Refused-clause-exactly
 returns-in-Refused-clause-exactly g c =
-    let x = extended_refused g.P.Point.coords g.P.Point.DIM c.self.inside.axis c.self.inside.points.items c.extend.new.points.items c.args.p c.in_ok-held.field-0 c.in-Refused.why c.in-Refused.is c.in_ok-held.ensures.extended in
+    let x = extended_refused g.P.Point.coords g.P.Point.DIM c.self.inside.axis c.self.inside.points.items c.extend.new.points.items c.args.p
+    c.in_ok-held.field-0 c.in-Refused.why c.in-Refused.is c.in_ok-held.ensures.extended in
     subst (λ (v : Grown). IsTrue false ↔ IsFlatFor v.axis (v.points ++ g.P.Point.coords c.args.p ∷ [])) c.self.view_is
-    (not_flat g.P.Point.DIM c.self.inside.axis (map g.P.Point.coords c.self.inside.points.items ++ g.P.Point.coords c.args.p ∷ []) (refutation_of c.in-Refused.why)
-    (subst (λ (l : List Point). IsRefuted g.P.Point.DIM c.self.inside.axis l (refutation_of c.in-Refused.why)) (one_more g.P.Point.coords c.self.inside.points.items c.args.p) x.1))
+    (not_flat g.P.Point.DIM c.self.inside.axis (map g.P.Point.coords c.self.inside.points.items ++ g.P.Point.coords c.args.p ∷ [])
+    (refutation_of c.in-Refused.why)
+    (subst (λ (l : List Point). IsRefuted g.P.Point.DIM c.self.inside.axis l (refutation_of c.in-Refused.why))
+    (one_more g.P.Point.coords c.self.inside.points.items c.args.p) x.1))
 
 pub extend-requires-clause-axis : goal.extend-requires-clause-axis
 extend-requires-clause-axis g c = c.self.invariant.low
 
 pub extend-requires-clause-few : goal.extend-requires-clause-few
-extend-requires-clause-few g c = few_shown g.P.Point.coords c.self.inside.axis c.self.inside.points.items c.args.self.now c.self.view_is (2 ^ 31 - 1) c.requires.few
+extend-requires-clause-few g c = few_shown g.P.Point.coords c.self.inside.axis c.self.inside.points.items c.args.self.now c.self.view_is (2 ^ 31 - 1)
+    c.requires.few
 
 pub extend-requires-clause-inside : goal.extend-requires-clause-inside
 extend-requires-clause-inside g c = c.self.invariant.inside
 
 pub extend-requires-clause-pair : goal.extend-requires-clause-pair
-extend-requires-clause-pair g c = pair_shown g.P.Point.coords c.self.inside.axis c.self.inside.points.items c.args.self.now c.self.view_is c.args.pair c.requires.pair
+extend-requires-clause-pair g c = pair_shown g.P.Point.coords c.self.inside.axis c.self.inside.points.items c.args.self.now c.self.view_is c.args.pair
+    c.requires.pair
 
 pub extend-requires-clause-known : goal.extend-requires-clause-known
 extend-requires-clause-known g c =
-    subst (λ (n : ℕ). AreRowsOf n c.self.inside.axis (map g.P.Point.coords c.self.inside.points.items) c.self.inside.known) (length-map c.self.inside.points.items g.P.Point.coords) c.self.invariant.rows
+    subst (λ (n : ℕ). AreRowsOf n c.self.inside.axis (map g.P.Point.coords c.self.inside.points.items) c.self.inside.known)
+    (length-map c.self.inside.points.items g.P.Point.coords) c.self.invariant.rows
 
 pub returns-in-Flat-clause-added : goal.returns-in-Flat-clause-added
 returns-in-Flat-clause-added g c =
-    let x = extended_flat g.P.Point.coords g.P.Point.DIM c.self.inside.axis c.self.inside.points.items c.extend.new.points.items c.args.p c.in_ok-held.field-0 c.in-Flat.held c.in-Flat.is c.in_ok-held.ensures.extended in
+    let x = extended_flat g.P.Point.coords g.P.Point.DIM c.self.inside.axis c.self.inside.points.items c.extend.new.points.items c.args.p c.in_ok-held.field-0
+    c.in-Flat.held c.in-Flat.is c.in_ok-held.ensures.extended in
     added_flat g.P.Point.coords c.self.inside.axis c.self.inside.points.items c.args.self.now c.self.view_is c.extend.new.points.items c.args.p x.0
 
 pub returns-in-Refused-clause-added : goal.returns-in-Refused-clause-added
 returns-in-Refused-clause-added g c =
-    let x = extended_refused g.P.Point.coords g.P.Point.DIM c.self.inside.axis c.self.inside.points.items c.extend.new.points.items c.args.p c.in_ok-held.field-0 c.in-Refused.why c.in-Refused.is c.in_ok-held.ensures.extended in
-    added_refused g.P.Point.coords c.self.inside.axis c.self.inside.points.items c.args.self.now c.self.view_is g.P.Point.DIM c.extend.new.points.items c.args.p (refutation_of c.in-Refused.why) x
+    let x = extended_refused g.P.Point.coords g.P.Point.DIM c.self.inside.axis c.self.inside.points.items c.extend.new.points.items c.args.p
+    c.in_ok-held.field-0 c.in-Refused.why c.in-Refused.is c.in_ok-held.ensures.extended in
+    added_refused g.P.Point.coords c.self.inside.axis c.self.inside.points.items c.args.self.now c.self.view_is g.P.Point.DIM c.extend.new.points.items c.args.p
+    (refutation_of c.in-Refused.why) x
 
 pub invariant_of-self : goal.invariant_of-self
 invariant_of-self g c =
-    grows_kept g.P.Point.DIM g.P.Point.MAX_SIDE c.self.inside.axis (map g.P.Point.coords c.self.inside.points.items) (map g.P.Point.coords c.extend.new.points.items) c.self.inside.known c.extend.new.known c.self.inside.held
-    c.self.invariant (ap (map g.P.Point.coords) c.in_err-held.ensures.extended) (subst (λ (n : ℕ). AreRowsOf n c.self.inside.axis (map g.P.Point.coords c.extend.new.points.items) c.extend.new.known) (sym (length-map c.extend.new.points.items g.P.Point.coords)) c.extend.ensures.known)
+    grows_kept g.P.Point.DIM g.P.Point.MAX_SIDE c.self.inside.axis (map g.P.Point.coords c.self.inside.points.items)
+    (map g.P.Point.coords c.extend.new.points.items) c.self.inside.known c.extend.new.known c.self.inside.held
+    c.self.invariant (ap (map g.P.Point.coords) c.in_err-held.ensures.extended)
+    (subst (λ (n : ℕ). AreRowsOf n c.self.inside.axis (map g.P.Point.coords c.extend.new.points.items) c.extend.new.known)
+    (sym (length-map c.extend.new.points.items g.P.Point.coords)) c.extend.ensures.known)
 
 pub returns-in_err-held-clause-added : goal.returns-in_err-held-clause-added
 returns-in_err-held-clause-added g c =
-    err_added g.P.Point.DIM c.args.self.now (shown g.P.Point.coords c.self.inside.axis c.extend.new.points.items) (g.P.Point.coords c.args.p) c.from_residual.result c.from_residual.ensures.0
-    (same_shown g.P.Point.coords c.self.inside.axis c.self.inside.points.items c.args.self.now c.self.view_is c.extend.new.points.items c.in_err-held.ensures.extended)
+    err_added g.P.Point.DIM c.args.self.now (shown g.P.Point.coords c.self.inside.axis c.extend.new.points.items) (g.P.Point.coords c.args.p)
+    c.from_residual.result c.from_residual.ensures.0
+    (same_shown g.P.Point.coords c.self.inside.axis c.self.inside.points.items c.args.self.now c.self.view_is c.extend.new.points.items
+    c.in_err-held.ensures.extended)

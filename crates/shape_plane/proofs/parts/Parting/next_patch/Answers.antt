@@ -32,7 +32,8 @@ invariant_of-self-2 g c =
     let to = past_next c.self.inside.left c.self.inside.next c.in-Some.i ready.within c.in-Some.ensures.below c.in-Some.ensures.next ready.past in
     let h = c.in_ok-patch.ensures in
     λ _.
-    ready_next g.P.Point.DIM c.self.inside.axis c.self.inside.left c.self.inside.tried c.patch_from.new.left c.patch_from.new.tried _ c.self.inside.next c.in-Some.i (g.P.Point.coords c.unraster-p.result) c.in_ok-patch.patch.found ready to.past c.in-Some.ensures.below
+    ready_next g.P.Point.DIM c.self.inside.axis c.self.inside.left c.self.inside.tried c.patch_from.new.left c.patch_from.new.tried _ c.self.inside.next
+    c.in-Some.i (g.P.Point.coords c.unraster-p.result) c.in_ok-patch.patch.found ready to.past c.in-Some.ensures.below
     (subst (λ (s : List ℕ). IsTrue (in_box s (g.P.Point.coords c.unraster-p.result))) c.sides.ensures.value c.unraster-p.ensures.inside)
     (subst (λ (s : List ℕ). raster_number s (g.P.Point.coords c.unraster-p.result) ≡ c.in-Some.i) c.sides.ensures.value c.unraster-p.ensures.back)
     h.next h.sides h.none h.cleared
@@ -53,4 +54,5 @@ pub patch_from-requires-clause-none : goal.patch_from-requires-clause-none
 patch_from-requires-clause-none g c = (c.self.invariant c.if-self.false).none
 
 pub returns-clause-next : goal.returns-clause-next
-returns-clause-next g c = subst (λ (r : Rest). IsNextPatch g.P.Point.DIM r.axis r.left c.patch_from.new.left c.in_ok-patch.patch.found) c.self.view_is c.in_ok-patch.ensures.next
+returns-clause-next g c = subst (λ (r : Rest). IsNextPatch g.P.Point.DIM r.axis r.left c.patch_from.new.left c.in_ok-patch.patch.found) c.self.view_is
+    c.in_ok-patch.ensures.next

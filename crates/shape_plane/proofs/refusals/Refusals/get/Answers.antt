@@ -7,5 +7,8 @@ use Rattle.shape_plane.proofs.refusals.Refusals.get.Goals as goal
 
 pub returns : goal.returns
 returns g c =
-    let few : c.args.i < length c.self.inside.items.items = (let v = ap (λ (l : List Refusal). length l) c.self.view_is in let r = c.requires in let m = length-map {B = Refusal} c.self.inside.items.items (refusal_of g.P.Point.coords) in omega (arith, v, r, m)) in
-    subst (λ (l : List Refusal). slice_get l c.args.i ≡ Some (refusal_of g.P.Point.coords c.index.result.now)) c.self.view_is (got_mapped (refusal_of g.P.Point.coords) c.self.inside.items.items c.args.i c.index.result.now c.index.ensures few)
+    let few : c.args.i < length c.self.inside.items.items =
+    (let v = ap (λ (l : List Refusal). length l) c.self.view_is in let r = c.requires in let m = length-map {B = Refusal} c.self.inside.items.items
+    (refusal_of g.P.Point.coords) in omega (arith, v, r, m)) in
+    subst (λ (l : List Refusal). slice_get l c.args.i ≡ Some (refusal_of g.P.Point.coords c.index.result.now)) c.self.view_is
+    (got_mapped (refusal_of g.P.Point.coords) c.self.inside.items.items c.args.i c.index.result.now c.index.ensures few)

@@ -14,4 +14,5 @@ returns-clause-same g c =
 pub returns-clause-rising : goal.returns-clause-rising
 returns-clause-rising g c =
     rising_mapped (refusal_of g.P.Point.coords) (λ (r : Refusal). r.number) c.sort_unstable_by_key.new.self.items
-    (IsNonDecreasingBy-from_sort_by_key (λ (r : Refused g.row.P.Denot). r.number) c.sort_unstable_by_key.new.self.items c.sort_unstable_by_key.ensures.sorted (λ a r f' q. search rules))
+    (IsNonDecreasingBy-from_sort_by_key (λ (r : Refused g.row.P.Denot). r.number) c.sort_unstable_by_key.new.self.items c.sort_unstable_by_key.ensures.sorted
+    (λ a r f' q. search rules))

@@ -23,4 +23,6 @@ returns-else-get-waits-clause-put c =
     let l : c.args.place < length ds = subst (λ (q : Queued). c.args.place < length q.distances) (sym c.self.view_is) c.requires.inside in
     let t : HasKey ds (rank_in ds c.args.place) (key_at ds c.args.place) = record { inside = l; same = refl; ranked = refl } in
     let same = same_value c.get.result c.args.waits c.if-get-waits.false in
-    rw (← c.self.view_is) (put_none (record { distances = ds; waiting = i.waiting }) t c.args.waits (sym (c.get.ensures ∙ c.self.invariant.queued_are.each c.args.place l) ∙ same))
+    rw (← c.self.view_is)
+    (put_none (record { distances = ds; waiting = i.waiting }) t c.args.waits
+    (sym (c.get.ensures ∙ c.self.invariant.queued_are.each c.args.place l) ∙ same))

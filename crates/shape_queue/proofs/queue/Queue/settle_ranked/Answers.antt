@@ -8,7 +8,8 @@ use Rattle.shape_queue.proofs.queue.Queue.settle_ranked.Goals as goal
 
 pub returns-then-get-waits-clause-put : goal.returns-then-get-waits-clause-put
 returns-then-get-waits-clause-put c = λ key t.
-    subst (λ k. Put (has c.args.self.now) (has c.change.new.self) k c.args.waits) (key_once c.args.self.now.distances c.args.rank c.ranked-key.result key c.ranked-key.ensures t) c.change.ensures.put
+    subst (λ k. Put (has c.args.self.now) (has c.change.new.self) k c.args.waits)
+    (key_once c.args.self.now.distances c.args.rank c.ranked-key.result key c.ranked-key.ensures t) c.change.ensures.put
 
 pub returns-else-get-waits-clause-put : goal.returns-else-get-waits-clause-put
 returns-else-get-waits-clause-put c =

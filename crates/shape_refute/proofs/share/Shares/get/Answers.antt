@@ -5,4 +5,5 @@ use Rattle.shape_refute.proofs.share.Shares.get.Goals as goal
 
 pub returns : goal.returns
 returns c =
-    seen_get share_of c.self.inside.entries c.self.inside.count c.args.i c.args.self.now _ c.self.view_is (omega (arith, c.self.invariant.0, c.self.invariant.1)) c.requires
+    seen_get share_of c.self.inside.entries c.self.inside.count c.args.i c.args.self.now _ c.self.view_is
+    (omega (arith, c.self.invariant.0, c.self.invariant.1)) c.requires

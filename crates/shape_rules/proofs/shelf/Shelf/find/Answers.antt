@@ -21,8 +21,10 @@ loop-i-preserved g c = λ j l d e. elim (ℕ_discrete j c.loop-i.i) [
   | no n ↦ c.loop-i.invariant j (omega arith) d e
   | yes q ↦ (
       let es = c.self.inside.entries.items in
-      let here : get_or es c.loop-i.i d ≡ c.index.result.now = get_or_default es c.loop-i.i d c.index.result.now (omega (arith, c.len-i-end.ensures)) ∙ sym c.index.ensures in
-      let named : word_of c.index.result.now.name ≡ word_of c.args.name.now = ap (λ x. word_of x.name) (sym here) ∙ ap (λ k. word_of (get_or es k d).name) (sym q) ∙ e in
+      let here : get_or es c.loop-i.i d ≡ c.index.result.now = get_or_default es c.loop-i.i d c.index.result.now (omega (arith, c.len-i-end.ensures))
+      ∙ sym c.index.ensures in
+      let named : word_of c.index.result.now.name ≡ word_of c.args.name.now = ap (λ x. word_of x.name) (sym here)
+      ∙ ap (λ k. word_of (get_or es k d).name) (sym q) ∙ e in
       let words : c.word.result.now ≡ c.word-in-loop-i.result.now = c.word.ensures.word ∙ named ∙ sym c.word-in-loop-i.ensures.word in
       let t : c.eq.result ≡ true = (slice_eq-Decides Decides-eqb c.word.result.now c.word-in-loop-i.result.now c.eq.result c.eq.ensures).1 words in
       let f : true ≡ false = sym t ∙ c.if-eq.false in
@@ -30,4 +32,6 @@ loop-i-preserved g c = λ j l d e. elim (ℕ_discrete j c.loop-i.i) [
 ]
 
 pub returns : goal.returns
-returns g c = rw (← c.self.view_is) (nowhere (λ e. e.name) named c.self.inside.entries.items (word_of c.args.name.now) (λ j l d e. c.loop-i.invariant j (omega (arith, c.len-i-end.ensures)) d e))
+returns g c = rw (← c.self.view_is)
+    (nowhere (λ e. e.name) named c.self.inside.entries.items (word_of c.args.name.now)
+    (λ j l d e. c.loop-i.invariant j (omega (arith, c.len-i-end.ensures)) d e))

@@ -19,6 +19,7 @@ returns g c =
       (refl, λ w. rule_set es c.args.i c.index_mut.result.now w c.index_mut.ensures.value ∙ ap (λ s. with_rule s c.args.i w) c.self.view_is),
       record {
         writes_back = tt;
-        value = ap (λ s. slice_get (rules_of s) c.args.i) (sym c.self.view_is) ∙ found_at (λ e. e.rule) named es c.args.i c.index_mut.result.now within c.index_mut.ensures.value;
+        value = ap (λ s. slice_get (rules_of s) c.args.i) (sym c.self.view_is) ∙ found_at (λ e. e.rule) named es c.args.i c.index_mut.result.now within
+            c.index_mut.ensures.value;
       },
     )

@@ -11,8 +11,12 @@ returns-then-x-ltminus1 g c =
     let p = g.P.Point.coords c.args.p in
     let a = g.met.P.Point.axes s.lengths in
     elim c.then-x-ltminus1.branch [
-      | then-x-ltminus1-via-then-x-ltminus1 w ↦ sym (out_of_frame g.P.Point.MAX_SIDE ns p c.loop-k.k s.in_range (omega arith) (inl (let t = w.if-x-ltminus1.true in omega (arith, ints, c.coord-x.ensures))))
-      | then-x-ltminus1-via-else-x-ltminus1+then-x-side w ↦ sym (out_of_frame g.P.Point.MAX_SIDE ns p c.loop-k.k s.in_range (omega arith) (inr (let t = w.if-x-side.true in omega (arith, ints, c.coord-x.ensures, w.side.ensures.value))))
+      | then-x-ltminus1-via-then-x-ltminus1 w ↦ sym
+          (out_of_frame g.P.Point.MAX_SIDE ns p c.loop-k.k s.in_range (omega arith)
+          (inl (let t = w.if-x-ltminus1.true in omega (arith, ints, c.coord-x.ensures))))
+      | then-x-ltminus1-via-else-x-ltminus1+then-x-side w ↦ sym
+          (out_of_frame g.P.Point.MAX_SIDE ns p c.loop-k.k s.in_range (omega arith)
+          (inr (let t = w.if-x-side.true in omega (arith, ints, c.coord-x.ensures, w.side.ensures.value))))
     ]
 
 pub returns : goal.returns

@@ -12,8 +12,11 @@ returns-then-x-lt0 g c =
     let p = g.P.Point.coords c.args.p in
     let a = g.met.P.Point.axes s.lengths in
     elim c.then-x-lt0.branch [
-      | then-x-lt0-via-then-x-lt0 w ↦ sym (out_of_box g.P.Point.MAX_SIDE ns p c.loop-k.k s.in_range (omega arith) (inl (let t = w.if-x-lt0.true in omega (arith, ints, c.coord-x.ensures))))
-      | then-x-lt0-via-else-x-lt0+then-x-coord w ↦ sym (out_of_box g.P.Point.MAX_SIDE ns p c.loop-k.k s.in_range (omega arith) (inr (let t = w.if-x-coord.true in omega (arith, ints, c.coord-x.ensures, w.coord.ensures))))
+      | then-x-lt0-via-then-x-lt0 w ↦ sym
+          (out_of_box g.P.Point.MAX_SIDE ns p c.loop-k.k s.in_range (omega arith) (inl (let t = w.if-x-lt0.true in omega (arith, ints, c.coord-x.ensures))))
+      | then-x-lt0-via-else-x-lt0+then-x-coord w ↦ sym
+          (out_of_box g.P.Point.MAX_SIDE ns p c.loop-k.k s.in_range (omega arith)
+          (inr (let t = w.if-x-coord.true in omega (arith, ints, c.coord-x.ensures, w.coord.ensures))))
     ]
 
 pub returns : goal.returns

@@ -14,7 +14,8 @@ overflow_mul-i g c =
     let a = g.met.P.Point.axes s.lengths in
     let b = g.met.P.Point.axes c.args.p in
     let few = s.few in
-    let part = raster_part g.P.Point.MAX_SIDE ns p c.loop-k.k (c.loop-k.k - 1) c.loop-k.i c.coord.result (coordinate p (c.loop-k.k - 1)) (omega arith) (omega arith) (omega arith) c.loop-k.invariant c.coord.ensures refl c.requires s.in_range in
+    let part = raster_part g.P.Point.MAX_SIDE ns p c.loop-k.k (c.loop-k.k - 1) c.loop-k.i c.coord.result (coordinate p (c.loop-k.k - 1)) (omega arith)
+    (omega arith) (omega arith) c.loop-k.invariant c.coord.ensures refl c.requires s.in_range in
     rw (to_z-of_z w32 c.coord.result f) (omega arith)
 
 pub overflow_add-i : goal.overflow_add-i
@@ -27,7 +28,8 @@ overflow_add-i g c =
     let a = g.met.P.Point.axes s.lengths in
     let b = g.met.P.Point.axes c.args.p in
     let few = s.few in
-    let part = raster_part g.P.Point.MAX_SIDE ns p c.loop-k.k (c.loop-k.k - 1) c.loop-k.i c.coord.result c.coord-in-loop-k.result (omega arith) (omega arith) (omega arith) c.loop-k.invariant c.coord.ensures c.coord-in-loop-k.ensures c.requires s.in_range in
+    let part = raster_part g.P.Point.MAX_SIDE ns p c.loop-k.k (c.loop-k.k - 1) c.loop-k.i c.coord.result c.coord-in-loop-k.result (omega arith) (omega arith)
+    (omega arith) c.loop-k.invariant c.coord.ensures c.coord-in-loop-k.ensures c.requires s.in_range in
     rw (to_z-of_z w32 c.coord.result f, to_z-of_z w32 c.coord-in-loop-k.result f2) (omega arith)
 
 pub loop-k-preserved : goal.loop-k-preserved
@@ -39,7 +41,8 @@ loop-k-preserved g c =
     let f2 : FitsSigned w32 c.coord-in-loop-k.result = search rules in
     let a = g.met.P.Point.axes s.lengths in
     let b = g.met.P.Point.axes c.args.p in
-    let t = raster_step ns p c.loop-k.k (c.loop-k.k - 1) c.loop-k.i c.coord.result c.coord-in-loop-k.result (omega arith) (omega arith) (omega arith) c.loop-k.invariant c.coord.ensures c.coord-in-loop-k.ensures in
+    let t = raster_step ns p c.loop-k.k (c.loop-k.k - 1) c.loop-k.i c.coord.result c.coord-in-loop-k.result (omega arith) (omega arith) (omega arith)
+    c.loop-k.invariant c.coord.ensures c.coord-in-loop-k.ensures in
     rw (to_z-of_z w32 c.coord.result f, to_z-of_z w32 c.coord-in-loop-k.result f2) t
 
 pub returns-clause-below : goal.returns-clause-below

@@ -6,7 +6,9 @@ use Rattle.shape_space.proofs.sides.Sides.unraster.Goals as goal
 
 pub returns-clause-value : goal.returns-clause-value
 returns-clause-value g c =
-    raster_point_done (g.P.Point.coords c.args.self.now.lengths) (g.P.Point.coords c.loop-k.p) c.loop-k.k c.loop-k.left c.args.i (rw (g.met.P.Point.axes c.loop-k.p, g.met.P.Point.axes c.args.self.now.lengths) refl) (rw (g.met.P.Point.axes c.args.self.now.lengths) (omega arith)) c.loop-k.invariant
+    raster_point_done (g.P.Point.coords c.args.self.now.lengths) (g.P.Point.coords c.loop-k.p) c.loop-k.k c.loop-k.left c.args.i
+    (rw (g.met.P.Point.axes c.loop-k.p, g.met.P.Point.axes c.args.self.now.lengths) refl) (rw (g.met.P.Point.axes c.args.self.now.lengths) (omega arith))
+    c.loop-k.invariant
 
 pub returns-clause-inside : goal.returns-clause-inside
 returns-clause-inside g c =

@@ -12,5 +12,7 @@ returns-then-has_number g c = λ t.
     let place = c.args.place in
     let s = c.args.s in
     let inside = subst (λ (X : Picture). place < box_count X.sides) (sym c.self.view_is) c.requires in
-    subst (λ (X : Picture). (j : ℕ) → j < box_count X.sides → is_nearer (raster_point X.sides place) s (raster_point X.sides j) ≡ true → at X (raster_point X.sides j) ≡ true) c.self.view_is
-    (λ j l near. deep Y c.self.inside.squares.values place s c.get.result j c.self.invariant inside (sym c.has_number.ensures ∙ c.if-has_number.true) c.get.ensures (c.is_within.ensures.0 t) l near)
+    subst (λ (X : Picture). (j : ℕ) → j < box_count X.sides → is_nearer (raster_point X.sides place) s (raster_point X.sides j) ≡ true
+    → at X (raster_point X.sides j) ≡ true) c.self.view_is
+    (λ j l near. deep Y c.self.inside.squares.values place s c.get.result j c.self.invariant inside (sym c.has_number.ensures ∙ c.if-has_number.true)
+    c.get.ensures (c.is_within.ensures.0 t) l near)

@@ -1,9 +1,0 @@
-pub mod RootFound
-pub mod ShortRuns
-pub mod FairSegments
-pub mod BordersShown
-pub mod BordersBegin
-pub mod HolesShown
-pub mod SameShares
-pub mod CoverOnce
-pub mod BordersOnce

@@ -1,9 +1,0 @@
-pub mod Quotients
-pub mod Runs
-pub mod Means
-pub mod Lengths
-pub mod Borders
-pub mod Objects
-pub mod Begins
-pub mod Shown
-pub mod HolesShown

@@ -1,5 +1,0 @@
-use Rattle.diameters.specs.SoFar.{AreSumsSoFar}
-use Rattle.diameters.proofs.objects.thickness_sums.Given as goal
-
-abbrev pub invariant-loop-i : goal.invariant-loop-i
-invariant-loop-i g l = AreSumsSoFar l.labels l.count l.thicknesses l.i l.all.items

@@ -1,5 +1,0 @@
-pub mod Lines
-pub mod Gaps
-pub mod Ways
-pub mod Arcs
-pub mod LineOf

@@ -1,9 +1,0 @@
-pub mod Told
-pub mod Rows
-pub mod Search
-pub mod Seen
-pub mod Corners
-pub mod Chains
-pub mod Narrower
-pub mod Lines
-pub mod Sizes

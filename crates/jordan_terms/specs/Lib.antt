@@ -1,3 +1,0 @@
-pub mod ComponentContours
-pub mod Holes
-pub mod Jordan

@@ -1,4 +1,0 @@
-pub mod Standings
-pub mod Room
-pub mod RoundParts
-pub mod Steps

@@ -1,2 +1,0 @@
-pub mod CoverState
-pub mod Segments

@@ -1,0 +1,15 @@
+pub mod CoverStandings
+pub mod Room
+pub mod RoundParts
+pub mod CoverSteps
+pub mod Marking
+pub mod Numbering
+pub mod Exposing
+pub mod ObjectWalk
+pub mod LeftPoints
+pub mod LeastBits
+pub mod Rounds
+pub mod Rising
+pub mod Touching
+pub mod PlaneSteps
+pub mod PlaneStandings

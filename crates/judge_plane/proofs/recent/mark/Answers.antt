@@ -1,8 +1,0 @@
-use Rattle.std.proofs.Common.{sym, subst, ◌++◌, ◌∷◌, []}
-use Rattle.judge_plane.specs.Terms.{point_of}
-use Rattle.judge_plane.specs.Exposure.{AreMarked}
-use Rattle.judge_plane.proofs.Marking.{marked_more}
-use Rattle.judge_plane.proofs.recent.mark.Goals as goal
-
-pub returns-clause-marked : goal.returns-clause-marked
-returns-clause-marked c = λ points h. subst (AreMarked (points ++ point_of c.args.p ∷ [])) (sym c.set.ensures) (marked_more c.args.recent.now (point_of c.args.p) c.is_picture.ensures.picture.filled c.requires points h)

@@ -1,4 +1,0 @@
-pub mod Terms
-pub mod Listings
-pub mod Exposure
-pub mod PlaneState

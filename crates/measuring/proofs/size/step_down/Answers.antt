@@ -1,0 +1,13 @@
+use Rattle.std.proofs.Common.{◌≡◌, ap, arith}
+use Rattle.std.proofs.lemmas.Int.{ints}
+use Rattle.measure_terms.specs.Hulls.{Corner, vertex, end}
+use Rattle.measuring.specs.Corners.{corners}
+use Rattle.measuring.proofs.size.step_down.Goals as goal
+
+pub returns : goal.returns
+returns c =
+    let h = corners c.args.round.now in
+    let from : c.vertex-from.result.y ≡ (vertex h c.args.i).y = ap (λ (z : Corner). z.y) c.vertex-from.ensures.is in
+    let to : c.end-to.result.y ≡ (end h c.args.i).y = ap (λ (z : Corner). z.y) c.end-to.ensures.is in
+    let step = c.short_step.ensures in
+    omega (arith, ints, from, to, step)

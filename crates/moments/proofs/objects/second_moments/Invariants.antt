@@ -1,7 +1,0 @@
-use Rattle.shape_terms.specs.Points.{sides_of}
-use Rattle.moments.specs.SoFar.{AreMomentsSoFar}
-use Rattle.moments.specs.Told.{all_told}
-use Rattle.moments.proofs.objects.second_moments.Given as goal
-
-abbrev pub invariant-loop-i : goal.invariant-loop-i
-invariant-loop-i g l = AreMomentsSoFar (sides_of (g.P.Point.coords l.sides.lengths)) l.labels l.count l.i (all_told l.all.items)

@@ -1,4 +1,0 @@
-pub mod Fitting
-pub mod Told
-pub mod SoFar
-pub mod Matrices

@@ -1,5 +1,0 @@
-use Rattle.measure_terms.proofs.OctantComponents.{minkowski_measure}
-use Rattle.octants.proofs.law.minkowski_measures_components.Goals as goal
-
-pub returns : goal.returns
-returns c = minkowski_measure

@@ -1,5 +1,0 @@
-use Rattle.report_making.proofs.Written.{writes_of}
-use Rattle.report_making.proofs.law.reports_are_made.Goals as goal
-
-pub returns : goal.returns
-returns g c = λ make. writes_of (g.M.Making.makes make)

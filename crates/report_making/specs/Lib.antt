@@ -1,4 +1,0 @@
-pub mod Made
-pub mod Runs
-pub mod Outcomes
-pub mod Complete

@@ -1,5 +1,0 @@
-use Rattle.shape_terms.proofs.ContourCovers.{covers}
-use Rattle.shape_cover.proofs.law.gaps_prove_the_cover.Goals as goal
-
-pub returns : goal.returns
-returns c = covers

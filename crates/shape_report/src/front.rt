@@ -1,0 +1,196 @@
+//! Reading a short line of one of the kinds of which reports have most lines, where it stands among bytes that follow.
+//! What is not read here `read` reads, so a further kind is a matter of speed alone.
+ghost use Rattle.std.specs.Prelude.{◌≡◌, ◌≤◌, ◌<◌, length, take, IfSome};
+ghost use Rattle.report_terms.specs.Kinds.{Kind, first_word};
+ghost use Rattle.shape_report.specs.LineOf.{line_of};
+ghost use Rattle.shape_report.specs.Front.{IsFront};
+
+use crate::line::Line;
+use report_text::{short_count, short_flat_axis, short_point, short_signed};
+use shape_refute::{Bounds, Naive, Refusal, Turn};
+use shape_space::Point;
+
+/// So many bytes are looked at, with the LF.
+const WINDOW: usize = 64;
+
+// Reads a `near` line.
+#[inline(always)]
+fn near<P: Point>(bytes: &[u8], line: &mut Line<P>) -> Option<usize>
+    requires room { 64 ≤ length bytes.now }
+    requires word { take 4 bytes.now ≡ first_word Kind.Near }
+    ensures { IfSome result (λ n. IsFront P.DIM bytes.now n (line_of P.coords line.new)) }
+{
+    let p = short_point::<P>(bytes, 4)?;
+    let q = short_point::<P>(bytes, p.end)?;
+    let s = short_count(bytes, q.end)?;
+    if bytes[s.end] != b'\n' {
+        return None;
+    }
+    *line = Line::Near {
+        p: p.value,
+        q: q.value,
+        s: u64::from(s.value),
+    };
+    Some(s.end)
+}
+
+// Reads an `at` line. It is a line of flat pictures alone.
+#[inline(always)]
+fn at<P: Point>(bytes: &[u8], line: &mut Line<P>) -> Option<usize>
+    requires room { 64 ≤ length bytes.now }
+    requires word { take 2 bytes.now ≡ first_word Kind.At }
+    ensures { IfSome result (λ n. IsFront P.DIM bytes.now n (line_of P.coords line.new)) }
+{
+    if P::DIM != 2 {
+        return None;
+    }
+    let p = short_point::<P>(bytes, 2)?;
+    if bytes[p.end] != b'\n' {
+        return None;
+    }
+    *line = Line::At { p: p.value };
+    Some(p.end)
+}
+
+// Reads an `on` line. It is a line of volumes alone.
+#[inline(always)]
+fn on<P: Point>(bytes: &[u8], line: &mut Line<P>) -> Option<usize>
+    requires room { 64 ≤ length bytes.now }
+    requires word { take 2 bytes.now ≡ first_word Kind.On }
+    ensures { IfSome result (λ n. IsFront P.DIM bytes.now n (line_of P.coords line.new)) }
+{
+    if P::DIM != 3 {
+        return None;
+    }
+    let p = short_point::<P>(bytes, 2)?;
+    if bytes[p.end] != b'\n' {
+        return None;
+    }
+    *line = Line::On { p: p.value };
+    Some(p.end)
+}
+
+// Reads a `del` line.
+#[inline(always)]
+fn del<P: Point>(bytes: &[u8], line: &mut Line<P>) -> Option<usize>
+    requires room { 64 ≤ length bytes.now }
+    requires word { take 3 bytes.now ≡ first_word Kind.Del }
+    ensures { IfSome result (λ n. IsFront P.DIM bytes.now n (line_of P.coords line.new)) }
+{
+    let p = short_point::<P>(bytes, 3)?;
+    if bytes[p.end] != b'\n' {
+        return None;
+    }
+    *line = Line::Del { p: p.value };
+    Some(p.end)
+}
+
+// Reads a `least` line. It is a line of flat pictures alone.
+#[inline(never)]
+fn least<P: Point>(bytes: &[u8], line: &mut Line<P>) -> Option<usize>
+    requires room { 64 ≤ length bytes.now }
+    requires word { take 5 bytes.now ≡ first_word Kind.Least }
+    ensures { IfSome result (λ n. IsFront P.DIM bytes.now n (line_of P.coords line.new)) }
+{
+    if P::DIM != 2 {
+        return None;
+    }
+    let low1 = short_count(bytes, 5)?;
+    let high1 = short_count(bytes, low1.end)?;
+    let low2 = short_count(bytes, high1.end)?;
+    let high2 = short_count(bytes, low2.end)?;
+    if bytes[high2.end] != b'\n' {
+        return None;
+    }
+    let bounds = Bounds {
+        low1: low1.value,
+        high1: high1.value,
+        low2: low2.value,
+        high2: high2.value,
+    };
+    *line = Line::Least { bounds };
+    Some(high2.end)
+}
+
+// Reads a `turn` line. It is a line of flat pictures alone.
+#[inline(never)]
+fn turn<P: Point>(bytes: &[u8], line: &mut Line<P>) -> Option<usize>
+    requires room { 64 ≤ length bytes.now }
+    requires word { take 4 bytes.now ≡ first_word Kind.Turn }
+    ensures { IfSome result (λ n. IsFront P.DIM bytes.now n (line_of P.coords line.new)) }
+{
+    if P::DIM != 2 {
+        return None;
+    }
+    let axis = short_flat_axis(bytes, 4)?;
+    let i = short_count(bytes, axis.end)?;
+    let j = short_count(bytes, i.end)?;
+    if bytes[j.end] != b'\n' {
+        return None;
+    }
+    let refusal = Refusal::Turned(Turn {
+        i: i.value,
+        j: j.value,
+    });
+    *line = Line::Gap {
+        axis: axis.value,
+        refusal,
+    };
+    Some(j.end)
+}
+
+// Reads a `seg` line. It is a line of flat pictures alone.
+#[inline(never)]
+fn seg<P: Point>(bytes: &[u8], line: &mut Line<P>) -> Option<usize>
+    requires room { 64 ≤ length bytes.now }
+    requires word { take 3 bytes.now ≡ first_word Kind.Seg }
+    ensures { IfSome result (λ n. IsFront P.DIM bytes.now n (line_of P.coords line.new)) }
+{
+    if P::DIM != 2 {
+        return None;
+    }
+    let first = short_count(bytes, 3)?;
+    let last = short_count(bytes, first.end)?;
+    let axis = short_flat_axis(bytes, last.end)?;
+    let x = short_signed(bytes, axis.end)?;
+    let y = short_signed(bytes, x.end)?;
+    let mu = short_signed(bytes, y.end)?;
+    if bytes[mu.end] != b'\n' {
+        return None;
+    }
+    let naive = Naive {
+        a: [x.value, y.value, 0],
+        mu: mu.value,
+        axis: axis.value,
+    };
+    *line = Line::Seg {
+        first: first.value,
+        last: last.value,
+        line: naive,
+    };
+    Some(mu.end)
+}
+
+/// Reads a short line that stands with its LF at the front of bytes, into a place, and answers how many bytes it has.
+///
+/// A line that it answers is one of the reports of pictures whose points are of type `P`, and stands in the place. It may
+/// answer none where bytes begin with a line; what stands in the place is then no matter. It takes no memory.
+#[inline(always)]
+pub fn read_front<P: Point>(bytes: &[u8], line: &mut Line<P>) -> Option<usize>
+    ensures front { IfSome result (λ n. IsFront P.DIM bytes.now n (line_of P.coords line.new)) }
+    ensures inside { IfSome result (λ n. n < length bytes.now) }
+{
+    if bytes.len() < WINDOW {
+        return None;
+    }
+    match bytes {
+        [b'n', b'e', b'a', b'r', ..] => near(bytes, line),
+        [b'd', b'e', b'l', ..] => del(bytes, line),
+        [b'a', b't', ..] => at(bytes, line),
+        [b'o', b'n', ..] => on(bytes, line),
+        [b's', b'e', b'g', ..] => seg(bytes, line),
+        [b'l', b'e', b'a', b's', b't', ..] => least(bytes, line),
+        [b't', b'u', b'r', b'n', ..] => turn(bytes, line),
+        _ => None,
+    }
+}

@@ -1,3 +1,0 @@
-pub mod ThinnerSteps
-pub mod RoundPlaces
-pub mod RoundSteps

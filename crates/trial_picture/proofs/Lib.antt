@@ -1,5 +1,0 @@
-pub mod DrawnBalls
-pub mod Spans
-pub mod BoxRows
-pub mod EqualSides
-pub mod BallsInTurn

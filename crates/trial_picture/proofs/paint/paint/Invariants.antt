@@ -1,7 +1,0 @@
-use Rattle.std.proofs.Common.{◌≡◌, ◌*◌, get_or}
-use Rattle.trial_picture.specs.Painting.{painted}
-use Rattle.trial_picture.proofs.paint.paint.Given as goal
-
-abbrev pub invariant-loop-row : goal.invariant-loop-row
-invariant-loop-row g l =
-    l.grid ≡ painted l.initial.grid (g.P.Point.coords l.ball.centre) l.ball.radius l.ball.object 0 (l.row * get_or l.initial.grid.sides 0 0)

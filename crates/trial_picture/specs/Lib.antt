@@ -1,2 +1,0 @@
-pub mod Balls
-pub mod Painting

@@ -1,4 +1,0 @@
-pub mod CanvasLaws
-pub mod DabLaws
-pub mod NearestLaws
-pub mod PlaceLaws

@@ -1,7 +1,0 @@
-use Rattle.std.proofs.Common.{◌≡◌, ◌++◌}
-use Rattle.std.specs.List.{flat_map, range_with_len}
-use Rattle.unfolding.specs.Sheets.{colour_layer}
-use Rattle.unfolding.proofs.layers.put_faces.Given as goal
-
-abbrev pub invariant-loop-colour : goal.invariant-loop-colour
-invariant-loop-colour l = l.svg ≡ l.initial.svg ++ flat_map (colour_layer l.canvas) (range_with_len 0 l.colour)

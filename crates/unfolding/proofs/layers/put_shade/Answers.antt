@@ -1,5 +1,0 @@
-use Rattle.drawing.proofs.LayerLaws.{three}
-use Rattle.unfolding.proofs.layers.put_shade.Goals as goal
-
-pub returns : goal.returns
-returns c = three _ _ _ _ _ _ _ c.in_ok-open_shade.ensures c.in_ok-put_ink.ensures c.in_ok-put.ensures
