@@ -73,7 +73,7 @@ clash_reaches t run (Crossed c) last l h =
     let b = h.lower.within in
     let d = h.upper.rising in
     let e = h.upper.within in
-    (omega arith, omega arith, omega arith, omega arith)
+    ((omega arith, omega arith), (omega arith, omega arith))
 
 -- the outcome of a step, for the run that the segment has then
 pub grown_to : (s : Segment) (p : P2) (run : List Point) (o : Result Segment Clash) → points_of s ++ flat_point p ∷ [] ≡ run → IsOutcome s p o

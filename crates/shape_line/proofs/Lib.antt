@@ -26,3 +26,5 @@ pub mod LeastSegments
 pub mod GrownRuns
 pub mod RunVerdicts
 pub mod FrameLines
+pub mod Bends
+pub mod Diagonals

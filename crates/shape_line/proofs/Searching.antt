@@ -119,13 +119,21 @@ ends_there points first last t g h l s =
     (arc_part points first (last + 1) first (g.place + 1) (omega arith) (omega arith) (omega arith)) (omega (arith, length-arc points first (g.place + 1)))
     t s)
 
--- the segment that goes further makes the reach
-pub reaches : (side : ℕ) (points : List Point) (path : IsClosedPath side points) (first t u : ℕ) (g o : Grown) (r : Reach) → t < 2 → t + u ≡ 1
-    → IsForward points first t g → IsForward points first u o → o.place ≤ g.place
+-- nor for another axis for which the segment that ended is not straight
+pub no_other_way : (points : List Point) (first u : ℕ) (g : Grown) → first ≤ g.place → points_of g.segment ≡ arc points first g.place
+    → (IsStraightFor u (points_of g.segment) → ⊥) → IsStraightFor u (arc points first (g.place + 1)) → ⊥
+no_other_way points first u g rises taken none s =
+    none (subst (IsStraightFor u) (sym taken)
+    (part_straight_for (arc points first (g.place + 1)) (arc points first g.place) (first - first)
+    (arc_part points first (g.place + 1) first g.place (omega arith) (omega arith) (omega arith)) (omega (arith, length-arc points first g.place)) u s))
+
+-- the segment of an axis makes the reach, where the arc with one place more is not straight for the other
+pub reaches : (side : ℕ) (points : List Point) (path : IsClosedPath side points) (first t u : ℕ) (g : Grown) (r : Reach) → t < 2 → t + u ≡ 1
+    → IsForward points first t g → (IsStraightFor u (arc points first (g.place + 1)) → ⊥)
     → r.stretch.first ≡ first → r.stretch.last ≡ g.place → r.stretch.line.axis ≡ g.segment.axis
     → IsNaiveFor g.segment.axis (points_of g.segment) (naive_of 2 r.stretch.line) → IsPlaneLine g.segment.axis r.stretch.line
     → IsLeastLine g.segment.axis (points_of g.segment) (naive_of 2 r.stretch.line) → r.grown ≡ g.segment → IsReach points r
-reaches side points path first t u g o r l both h k le e1 e2 e3 naive plane best e4 =
+reaches side points path first t u g r l both h no_other e1 e2 e3 naive plane best e4 =
     let rises = h.rises in
     let same : arc points r.stretch.first r.stretch.last ≡ arc points first g.place = (λ i. arc points (e1 i) (e2 i)) in
     let taken : points_of g.segment ≡ arc points r.stretch.first r.stretch.last = h.taken ∙ sym same in
@@ -149,7 +157,7 @@ reaches side points path first t u g o r l both h k le e1 e2 e3 naive plane best
     none_for : (v : ℕ) → v < 2 → IsStraightFor v (arc points first (g.place + 1)) → ⊥
     none_for v m s = elim (ℕ_discrete v t) [
       | yes e ↦ ends_there points first g.place t g h (omega arith) (subst (λ a. IsStraightFor a (arc points first (g.place + 1))) e s)
-      | no n ↦ ends_there points first g.place u o k le (subst (λ a. IsStraightFor a (arc points first (g.place + 1))) (let e : v ≡ u = omega arith in e) s)
+      | no n ↦ no_other (subst (λ a. IsStraightFor a (arc points first (g.place + 1))) (let e : v ≡ u = omega arith in e) s)
     ]
 
     none : IsStraight (arc points first (g.place + 1)) → ⊥

@@ -5,7 +5,7 @@ use Rattle.shape_refute.specs.Terms.{naive_of}
 use Rattle.shape_line.specs.declared.stretch.Stretch.{Stretch}
 use Rattle.shape_line.specs.declared.entry.Entry.{Entry}
 use Rattle.shape_line.specs.Found.{Found}
-use Rattle.shape_refute.specs.Evidences.{evidence_of}
+use Rattle.shape_line.specs.Evidence.{evidence_behind}
 use Rattle.shape_line.specs.SegmentTerms.{points_of}
 
 -- the places alone
@@ -20,6 +20,6 @@ found_of e = record {
   line = naive_of 2 e.stretch.line;
   grown = points_of e.grown;
   x =
-      evidence_of e.gap.x;
-  y = evidence_of e.gap.y;
+      evidence_behind e.bend.x e.bend.last;
+  y = evidence_behind e.bend.y e.bend.last;
 }

@@ -17,7 +17,7 @@ use Rattle.shape_line.specs.declared.start.NextStart.{NextStart}
 use Rattle.shape_line.specs.declared.walk.Passed.{Passed}
 use Rattle.shape_line.specs.declared.entry.Entry.{Entry}
 use Rattle.shape_line.specs.Arcs.{IsHeld, IsBent}
-use Rattle.shape_refute.specs.Evidences.{evidence_of}
+use Rattle.shape_line.specs.Evidence.{evidence_behind}
 use Rattle.shape_line.specs.Entries.{stretch_of, found_of}
 use Rattle.shape_line.specs.Walking.{contour_walk}
 
@@ -56,7 +56,7 @@ pub record IsNextStart (points : List Point) (g : Reach) (s : NextStart) : Type 
   pub later : g.stretch.first < s.first
   pub near : s.first ≤ g.stretch.last + 1
   pub straight : IsStraight (arc points s.first (g.stretch.last + 1))
-  pub gap : IsBent (arc points (s.first - 1) (g.stretch.last + 1)) (evidence_of s.gap.x) (evidence_of s.gap.y)
+  pub bent : IsBent (arc points (s.first - 1) (g.stretch.last + 1)) (evidence_behind s.bend.x s.bend.last) (evidence_behind s.bend.y s.bend.last)
 
 -- the walk has left the stretch, and goes on from the next one
 pub record IsPassed (points : List Point) (g : Reach) (p : Passed) : Type 0 where

@@ -99,6 +99,6 @@ impl Cover {
         ensures x { evidence_of result.x ≡ (found_at self.now k).x }
         ensures y { evidence_of result.y ≡ (found_at self.now k).y }
     {
-        self.entries[k as usize].gap
+        self.entries[k as usize].bend.gap()
     }
 }

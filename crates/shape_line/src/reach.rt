@@ -53,6 +53,9 @@ pub fn longest_from(contour: &Contour, first: u32) -> Reach
 {
     contour.is_closed_path();
     let x = forward(contour, first, 0);
+    if x.segment.refuses_other_axis() {
+        return stretch_of(first, x);
+    }
     let y = forward(contour, first, 1);
     if x.place < y.place {
         stretch_of(first, y)

@@ -1,21 +1,13 @@
 //! Where the next maximal segment begins: at the least place from which a straight arc passes the end of the present one.
 //! A segment of each axis is grown backward from that end; where it stops is the evidence for the gap.
-ghost use Rattle.std.specs.Prelude.{◌≡◌, ◌⊎◌, ◌-◌, ◌*◌, ◌<◌, ◌≤◌};
+ghost use Rattle.std.specs.Prelude.{◌≡◌, ◌⊎◌, ◌*◌, ◌<◌, ◌≤◌};
 ghost use Rattle.shape_terms.specs.Limits.{most_round};
-ghost use Rattle.shape_terms.specs.Covers.{arc};
-ghost use Rattle.shape_terms.specs.BackArcs.{back_arc};
-ghost use Rattle.shape_refute.specs.Evidences.{evidence_of};
-ghost use Rattle.shape_line.specs.Clashes.{IsClash};
-ghost use Rattle.shape_line.specs.Arcs.{IsRefused};
 ghost use Rattle.shape_line.specs.Searches.{IsReach, IsNextStart};
 
 use crate::back::backward;
-use crate::evidence::behind;
-use crate::gap::Gap;
-use crate::grow::Grown;
+use crate::bend::Bend;
 use crate::reach::Reach;
 use shape_crack::Contour;
-use shape_refute::Refusal;
 
 /// A place from which the arc to the place after a stretch is straight, and why it is not from the place before.
 #[derive(Clone, Copy)]
@@ -23,21 +15,7 @@ pub struct NextStart {
     /// The place.
     pub first: u32,
     /// Why the arc from the place before is not straight.
-    pub gap: Gap,
-}
-
-// Why the arc from the place before `first` to the place `end` is not straight for an axis: the segment that goes back from there stops.
-fn evidence(contour: &Contour, first: u32, end: u32, axis: usize, g: Grown) -> Refusal
-    requires axis { axis < 2 }
-    requires near { g.place ≤ end }
-    requires clash { IsClash axis (back_arc contour.now.points (g.place - 1) end) g.clash }
-    requires some { 1 ≤ first }
-    requires least { first ≤ g.place }
-    requires low { end < 3 * most_round }
-    ensures { IsRefused axis (arc contour.now.points (first - 1) end) (evidence_of result) }
-{
-    contour.is_closed_path();
-    behind(g.clash, end + 1 - first)
+    pub bend: Bend,
 }
 
 // The earlier of two places.
@@ -63,9 +41,10 @@ pub fn next_start(contour: &Contour, reach: &Reach) -> NextStart
     let first = earlier(x.place, y.place);
     NextStart {
         first,
-        gap: Gap {
-            x: evidence(contour, first, end, 0, x),
-            y: evidence(contour, first, end, 1, y),
+        bend: Bend {
+            x: x.clash,
+            y: y.clash,
+            last: end + 1 - first,
         },
     }
 }

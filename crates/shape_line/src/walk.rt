@@ -40,7 +40,7 @@ fn pass(contour: &Contour, reach: Reach) -> Passed
         entry: Entry {
             stretch: reach.stretch,
             grown: reach.grown,
-            gap: start.gap,
+            bend: start.bend,
         },
         next,
     }

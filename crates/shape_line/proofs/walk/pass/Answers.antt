@@ -3,7 +3,7 @@ use Rattle.shape_terms.specs.Straight.{IsStraight}
 use Rattle.shape_terms.specs.Covers.{arc}
 use Rattle.shape_terms.proofs.RunArcs.{goes_as_far}
 use Rattle.shape_terms.proofs.ContourCovers.{straightness}
-use Rattle.shape_refute.specs.Evidences.{evidence_of}
+use Rattle.shape_line.specs.Evidence.{evidence_behind}
 use Rattle.shape_line.specs.Arcs.{IsBent}
 use Rattle.shape_line.specs.Entries.{stretch_of}
 use Rattle.shape_line.proofs.Searching.{reach_longest}
@@ -18,6 +18,7 @@ returns c =
     let later = s.later in
     let near = s.near in
     let next = c.longest_from-next.result in
+    let bend = c.next_start-start.result.bend in
     let far = goes_as_far IsStraight straightness points (stretch_of next.stretch) (reach_longest points next n.reach) c.next_start-start.result.first
     (c.args.reach.stretch.last + 1) e s.straight in
     record {
@@ -27,8 +28,8 @@ returns c =
         first = omega arith;
         last = omega arith;
         near = omega arith;
-        gap = subst (λ (b : ℕ). IsBent (arc points (b - 1) (c.args.reach.stretch.last + 1)) (evidence_of c.next_start-start.result.gap.x)
-            (evidence_of c.next_start-start.result.gap.y)) (sym e) s.gap;
+        gap = subst (λ (b : ℕ). IsBent (arc points (b - 1) (c.args.reach.stretch.last + 1)) (evidence_behind bend.x bend.last)
+            (evidence_behind bend.y bend.last)) (sym e) s.bent;
       };
       next = n.reach;
     }
