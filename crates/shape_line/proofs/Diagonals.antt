@@ -41,9 +41,9 @@ module _ (t : ℕ) (run : List Point) (no_turn : (i j : ℕ) → IsTurn t run i 
   first_way l = elim (ℤ_discrete (change_at run t 0) (pos 1)) [
     | yes a ↦ inl a
     | no n ↦ elim (ℤ_discrete (change_at run t 0) (negsuc 0)) [
-        | yes b ↦ inr b
-        | no m ↦ absurd (no_turn 0 0 (record { first = omega arith; second = omega arith; not_forward = λ h. n h.0; not_backward = λ h. m h.0 }))
-      ]
+      | yes b ↦ inr b
+      | no m ↦ absurd (no_turn 0 0 (record { first = omega arith; second = omega arith; not_forward = λ h. n h.0; not_backward = λ h. m h.0 }))
+    ]
   ]
 
 -- ---- a row with the main coefficient 1
@@ -139,30 +139,36 @@ module _ (t : ℕ) (l : t < 2) (s x0 : ℤ) (sense : IsSense s) (run : List Poin
 
   upward : ((i : ℕ) → i + 1 < length run → change_at run (other_axis t) i ≡ pos 1) → Diagonal
   upward h =
-      let z0 = coordinate (point_at run 0) t in
-      (record { a = row t (neg_ℤ s) (pos 1); mu = z0 -ℤ x0 },
-      (one_line (neg_ℤ s) (z0 -ℤ x0) (let o : nat_abs s ≡ 1 = sense in omega (arith, ints, o))
-      (λ i m. value_forward s (coordinate (point_at run i) (other_axis t)) (coordinate (point_at run i) t) x0 (pos i) z0 (place i m)
-      (rises (λ j b. changes (pos 1) j (h j b)) i m)),
-      main_one t (neg_ℤ s) l))
+      let z0 = coordinate (point_at run 0) t in (
+        record { a = row t (neg_ℤ s) (pos 1); mu = z0 -ℤ x0 },
+        (
+          one_line (neg_ℤ s) (z0 -ℤ x0) (let o : nat_abs s ≡ 1 = sense in omega (arith, ints, o))
+              (λ i m. value_forward s (coordinate (point_at run i) (other_axis t)) (coordinate (point_at run i) t) x0 (pos i) z0 (place i m)
+              (rises (λ j b. changes (pos 1) j (h j b)) i m)),
+          main_one t (neg_ℤ s) l,
+        ),
+      )
 
   downward : ((i : ℕ) → i + 1 < length run → change_at run (other_axis t) i ≡ negsuc 0) → Diagonal
   downward h =
-      let z0 = coordinate (point_at run 0) t in
-      (record { a = row t s (pos 1); mu = z0 +ℤ x0 },
-      (one_line s (z0 +ℤ x0) sense
-      (λ i m. value_backward s (coordinate (point_at run i) (other_axis t)) (coordinate (point_at run i) t) x0 (pos i) z0 (place i m)
-      (falls (λ j b. changes (negsuc 0) j (h j b)) i m)),
-      main_one t s l))
+      let z0 = coordinate (point_at run 0) t in (
+        record { a = row t s (pos 1); mu = z0 +ℤ x0 },
+        (
+          one_line s (z0 +ℤ x0) sense
+              (λ i m. value_backward s (coordinate (point_at run i) (other_axis t)) (coordinate (point_at run i) t) x0 (pos i) z0 (place i m)
+              (falls (λ j b. changes (negsuc 0) j (h j b)) i m)),
+          main_one t s l,
+        ),
+      )
 
   -- so a line with the main coefficient 1 holds the run that is straight for the other axis too
   diagonal : IsStraightFor (other_axis t) run → Diagonal
   diagonal h = elim (dec_lt 1 (length run)) [
     | no n ↦ alone n
     | yes some ↦ elim (first_way (other_axis t) run h.no_turn some) [
-        | inl e ↦ upward (forward (other_axis t) run h.no_turn e)
-        | inr e ↦ downward (backward (other_axis t) run h.no_turn e)
-      ]
+      | inl e ↦ upward (forward (other_axis t) run h.no_turn e)
+      | inr e ↦ downward (backward (other_axis t) run h.no_turn e)
+    ]
   ]
 
 -- ---- the segment

@@ -14,7 +14,6 @@ use Rattle.shape_line.specs.declared.grow.Grown.{Grown}
 use Rattle.shape_line.specs.declared.stretch.Stretch.{Stretch}
 use Rattle.shape_line.specs.declared.reach.Reach.{Reach}
 use Rattle.shape_line.specs.declared.start.NextStart.{NextStart}
-use Rattle.shape_line.specs.declared.walk.Passed.{Passed}
 use Rattle.shape_line.specs.declared.entry.Entry.{Entry}
 use Rattle.shape_line.specs.Arcs.{IsHeld, IsBent}
 use Rattle.shape_line.specs.Evidence.{evidence_behind}
@@ -59,14 +58,14 @@ pub record IsNextStart (points : List Point) (g : Reach) (s : NextStart) : Type 
   pub bent : IsBent (arc points (s.first - 1) (g.stretch.last + 1)) (evidence_behind s.bend.x s.bend.last) (evidence_behind s.bend.y s.bend.last)
 
 -- the walk has left the stretch, and goes on from the next one
-pub record IsPassed (points : List Point) (g : Reach) (p : Passed) : Type 0 where
-  pub same : p.entry.stretch ≡ g.stretch
-  pub grown : p.entry.grown ≡ g.grown
-  pub followed : IsFollowedBy contour_walk points (found_of p.entry) (stretch_of p.next.stretch)
-  pub next : IsReach points p.next
+pub record IsPassed (points : List Point) (g : Reach) (entry : Entry) (next : Reach) : Type 0 where
+  pub same : entry.stretch ≡ g.stretch
+  pub grown : entry.grown ≡ g.grown
+  pub followed : IsFollowedBy contour_walk points (found_of entry) (stretch_of next.stretch)
+  pub reach : IsReach points next
 
 -- the stretch that was left was put last, and the next one was reached
 pub record HasPassed (points : List Point) (g : Reach) (old new : List Entry) (next : Reach) : Type 0 where
   pub entry : Entry
   pub items : new ≡ old ++ entry ∷ []
-  pub passed : IsPassed points g (record { entry = entry; next = next })
+  pub passed : IsPassed points g entry next

@@ -6,7 +6,7 @@ ghost use Rattle.shape_terms.specs.Straight.{IsStraight};
 ghost use Rattle.shape_terms.specs.RunWalks.{IsStart};
 ghost use Rattle.shape_line.specs.Found.{IsCoverOf};
 ghost use Rattle.shape_line.specs.Entries.{stretch_of, found_of};
-ghost use Rattle.shape_line.specs.Searches.{IsReach, IsPassed, HasPassed};
+ghost use Rattle.shape_line.specs.Searches.{IsReach, HasPassed};
 
 use crate::entry::Entry;
 use crate::list::Cover;
@@ -16,35 +16,6 @@ use crate::start::next_start;
 use shape_crack::Contour;
 use shape_space::NoMemory;
 use std::alloc::Global;
-
-/// A stretch that the walk has left, and the next one.
-#[derive(Clone, Copy)]
-pub struct Passed {
-    /// The stretch, with the evidence for the gap after it.
-    pub entry: Entry,
-    /// The next one.
-    pub next: Reach,
-}
-
-// Goes from a stretch to the next one.
-#[inline(always)]
-fn pass(contour: &Contour, reach: Reach) -> Passed
-    requires low { reach.stretch.first < 2 * most_round }
-    requires reach { IsReach contour.now.points reach }
-    ensures { IsPassed contour.now.points reach result }
-{
-    contour.is_closed_path();
-    let start = next_start(contour, &reach);
-    let next = longest_from(contour, start.first);
-    Passed {
-        entry: Entry {
-            stretch: reach.stretch,
-            grown: reach.grown,
-            bend: start.bend,
-        },
-        next,
-    }
-}
 
 // A stretch that the walk may begin with: the first maximal one.
 fn first_reach(contour: &Contour) -> Reach
@@ -57,7 +28,8 @@ fn first_reach(contour: &Contour) -> Reach
     if before.stretch.last < reach.stretch.last + n {
         reach
     } else {
-        pass(contour, reach).next
+        let start = next_start(contour, &reach);
+        longest_from(contour, start.first)
     }
 }
 
@@ -68,10 +40,15 @@ fn go_on(contour: &Contour, entries: &mut Vec<Entry>, reach: Reach) -> Result<Re
     requires reach { IsReach contour.now.points reach }
     ensures { IfOk result (HasPassed contour.now.points reach entries.old.items entries.new.items) }
 {
-    let passed = pass(contour, reach);
-    let next = passed.next;
-    put_last(entries, passed.entry)?;
-    Ok(next)
+    contour.is_closed_path();
+    let start = next_start(contour, &reach);
+    let entry = Entry {
+        stretch: reach.stretch,
+        grown: reach.grown,
+        bend: start.bend,
+    };
+    put_last(entries, entry)?;
+    Ok(longest_from(contour, start.first))
 }
 
 // The entries of the stretches from the first one on, once round the contour.

@@ -23,7 +23,7 @@ pub loop-reach-preserved : goal.loop-reach-preserved
 loop-reach-preserved c =
     let more = c.in_ok-reach.ensures in
     rw more.items (goes_on c.args.contour.now.points c.loop-reach.entries.items c.loop-reach.reach (c.args.first.stretch.first + c.len.result)
-    c.loop-reach.invariant c.loop-reach-test.true (record { entry = more.entry; next = c.in_ok-reach.reach }) more.passed)
+    c.loop-reach.invariant c.loop-reach-test.true more.entry c.in_ok-reach.reach more.passed)
 
 pub returns-clause-cover : goal.returns-clause-cover
 returns-clause-cover c = comes_round c.args.contour.now.points c.loop-reach.entries.items c.loop-reach.reach (c.args.first.stretch.first + c.len.result)
