@@ -10,14 +10,19 @@ use Rattle.report_text.specs.Front.{StandsAt}
 use Rattle.shape_report.specs.Front.{IsFront}
 use Rattle.shape_report.proofs.Claims.{spelled}
 
-pub front_of : (d : ℕ) (l : Terms.Line) (bytes : List ℕ) (from end room : ℕ) → IsLineOf d l → take from bytes ≡ first_word (split l).kind
-    → StandsAt bytes from end room ((form_of d (split l).kind).words (split l).fields) → get_or bytes end 0 ≡ 10 → from + room < 64 → IsFront d bytes end l
-front_of d l bytes from end room a word s lf few = record {
+-- a line of fewer than 64 bytes, whatever room its fields may take
+pub short_front : (d : ℕ) (l : Terms.Line) (bytes : List ℕ) (from end room : ℕ) → IsLineOf d l → take from bytes ≡ first_word (split l).kind
+    → StandsAt bytes from end room ((form_of d (split l).kind).words (split l).fields) → get_or bytes end 0 ≡ 10 → end < 64 → IsFront d bytes end l
+short_front d l bytes from end room a word s lf few = record {
   fields = a;
   text = s.text ∙ ap (λ (u : List ℕ). u ++ behind_blanks ((form_of d (split l).kind).words (split l).fields)) word ∙ spelled d l a;
   lf = lf;
-  short = omega (arith, s.few);
+  short = few;
 }
+
+pub front_of : (d : ℕ) (l : Terms.Line) (bytes : List ℕ) (from end room : ℕ) → IsLineOf d l → take from bytes ≡ first_word (split l).kind
+    → StandsAt bytes from end room ((form_of d (split l).kind).words (split l).fields) → get_or bytes end 0 ≡ 10 → from + room < 64 → IsFront d bytes end l
+front_of d l bytes from end room a word s lf few = short_front d l bytes from end room a word s lf (omega (arith, s.few, few))
 
 -- one byte more
 pub one_byte : (bytes word : List ℕ) (n c : ℕ) → take n bytes ≡ word → n < length bytes → get_or bytes n 0 ≡ c → take (suc n) bytes ≡ word ++ c ∷ []

@@ -1,12 +1,14 @@
 //! Reading a short line of one of the kinds of which reports have most lines, where it stands among bytes that follow.
 //! What is not read here `read` reads, so a further kind is a matter of speed alone.
-ghost use Rattle.std.specs.Prelude.{◌≡◌, ◌≤◌, ◌<◌, length, take, IfSome};
+ghost use Rattle.std.specs.Prelude.{◌≡◌, ◌≤◌, ◌<◌, ◌+◌, IsTrue, length, take, get_or, IfSome};
+ghost use Rattle.text_terms.specs.Fields.{point};
 ghost use Rattle.report_terms.specs.Kinds.{Kind, first_word};
+ghost use Rattle.report_text.specs.Front.{StandsAt};
 ghost use Rattle.shape_report.specs.LineOf.{line_of};
 ghost use Rattle.shape_report.specs.Front.{IsFront};
 
 use crate::line::Line;
-use report_text::{short_count, short_flat_axis, short_point, short_signed};
+use report_text::{Field, short_count, short_flat_axis, short_point, short_signed, short_why};
 use shape_refute::{Bounds, Naive, Refusal, Turn};
 use shape_space::Point;
 
@@ -34,6 +36,19 @@ fn near<P: Point>(bytes: &[u8], line: &mut Line<P>) -> Option<usize>
     Some(s.end)
 }
 
+// Reads a point that is the last field of a line.
+#[inline(always)]
+fn last_point<P: Point>(bytes: &[u8], at: usize) -> Option<Field<P>>
+    requires { at + 25 ≤ length bytes.now }
+    ensures stands { IfSome result
+        (λ f. StandsAt bytes.now at f.end 24 ((point P.DIM).words (P.coords f.value))) }
+    ensures fits { IfSome result (λ f. (point P.DIM).InRange (P.coords f.value)) }
+    ensures lf { IfSome result (λ f. get_or bytes.now f.end 0 ≡ 10) }
+{
+    let p = short_point::<P>(bytes, at)?;
+    if bytes[p.end] == b'\n' { Some(p) } else { None }
+}
+
 // Reads an `at` line. It is a line of flat pictures alone.
 #[inline(always)]
 fn at<P: Point>(bytes: &[u8], line: &mut Line<P>) -> Option<usize>
@@ -44,10 +59,7 @@ fn at<P: Point>(bytes: &[u8], line: &mut Line<P>) -> Option<usize>
     if P::DIM != 2 {
         return None;
     }
-    let p = short_point::<P>(bytes, 2)?;
-    if bytes[p.end] != b'\n' {
-        return None;
-    }
+    let p = last_point(bytes, 2)?;
     *line = Line::At { p: p.value };
     Some(p.end)
 }
@@ -62,10 +74,7 @@ fn on<P: Point>(bytes: &[u8], line: &mut Line<P>) -> Option<usize>
     if P::DIM != 3 {
         return None;
     }
-    let p = short_point::<P>(bytes, 2)?;
-    if bytes[p.end] != b'\n' {
-        return None;
-    }
+    let p = last_point(bytes, 2)?;
     *line = Line::On { p: p.value };
     Some(p.end)
 }
@@ -77,10 +86,7 @@ fn del<P: Point>(bytes: &[u8], line: &mut Line<P>) -> Option<usize>
     requires word { take 3 bytes.now ≡ first_word Kind.Del }
     ensures { IfSome result (λ n. IsFront P.DIM bytes.now n (line_of P.coords line.new)) }
 {
-    let p = short_point::<P>(bytes, 3)?;
-    if bytes[p.end] != b'\n' {
-        return None;
-    }
+    let p = last_point(bytes, 3)?;
     *line = Line::Del { p: p.value };
     Some(p.end)
 }
@@ -171,6 +177,59 @@ fn seg<P: Point>(bytes: &[u8], line: &mut Line<P>) -> Option<usize>
     Some(mu.end)
 }
 
+// Whether LF stands at a place of the bytes that are looked at.
+#[inline(always)]
+fn ends_at(bytes: &[u8], end: usize) -> bool
+    requires { 64 ≤ length bytes.now }
+    ensures { IsTrue result → (end < 64) × (get_or bytes.now end 0 ≡ 10) }
+{
+    end < WINDOW && bytes[end] == b'\n'
+}
+
+// Reads a `cut` line. It is a line of flat pictures alone.
+#[inline(never)]
+fn cut<P: Point>(bytes: &[u8], line: &mut Line<P>) -> Option<usize>
+    requires room { 64 ≤ length bytes.now }
+    requires word { take 3 bytes.now ≡ first_word Kind.Cut }
+    ensures { IfSome result (λ n. IsFront P.DIM bytes.now n (line_of P.coords line.new)) }
+{
+    if P::DIM != 2 {
+        return None;
+    }
+    let axis = short_flat_axis(bytes, 3)?;
+    let why = short_why(bytes, axis.end, 2)?;
+    if !ends_at(bytes, why.end) {
+        return None;
+    }
+    *line = Line::Gap {
+        axis: axis.value,
+        refusal: Refusal::Cut(why.value),
+    };
+    Some(why.end)
+}
+
+// Reads an `off` line. It is a line of volumes alone.
+#[inline(never)]
+fn off<P: Point>(bytes: &[u8], line: &mut Line<P>) -> Option<usize>
+    requires room { 64 ≤ length bytes.now }
+    requires word { take 3 bytes.now ≡ first_word Kind.Off }
+    ensures { IfSome result (λ n. IsFront P.DIM bytes.now n (line_of P.coords line.new)) }
+{
+    if P::DIM != 3 {
+        return None;
+    }
+    let p = short_point::<P>(bytes, 3)?;
+    let why = short_why(bytes, p.end, 3)?;
+    if !ends_at(bytes, why.end) {
+        return None;
+    }
+    *line = Line::Off {
+        p: p.value,
+        why: why.value,
+    };
+    Some(why.end)
+}
+
 /// Reads a short line that stands with its LF at the front of bytes, into a place, and answers how many bytes it has.
 ///
 /// A line that it answers is one of the reports of pictures whose points are of type `P`, and stands in the place. It may
@@ -188,9 +247,11 @@ pub fn read_front<P: Point>(bytes: &[u8], line: &mut Line<P>) -> Option<usize>
         [b'd', b'e', b'l', ..] => del(bytes, line),
         [b'a', b't', ..] => at(bytes, line),
         [b'o', b'n', ..] => on(bytes, line),
+        [b'o', b'f', b'f', ..] => off(bytes, line),
         [b's', b'e', b'g', ..] => seg(bytes, line),
         [b'l', b'e', b'a', b's', b't', ..] => least(bytes, line),
         [b't', b'u', b'r', b'n', ..] => turn(bytes, line),
+        [b'c', b'u', b't', ..] => cut(bytes, line),
         _ => None,
     }
 }

@@ -2,6 +2,7 @@
 //! Spelling and lines are one to one; what a line claims of a picture is judged elsewhere.
 #![tactic(auto)]
 
+mod claim;
 mod field;
 mod front;
 mod law;

@@ -8,4 +8,4 @@ pub returns : goal.returns
 returns g c =
     let p = c.in_ok-p in
     front_of g.P.Point.DIM (Terms.Del (g.P.Point.coords p.p.value)) c.args.bytes.now 3 p.p.end 24 p.ensures.fits c.requires.word p.ensures.stands
-    c.if-bytes-p-ne10.false (omega arith)
+    p.ensures.lf (omega arith)

@@ -3,7 +3,7 @@ use Rattle.text_terms.specs.Forms.{name, behind, ◌⨾◌}
 use Rattle.text_terms.specs.Fields.{point}
 use Rattle.shape_rules.specs.Names.{word_of}
 use Rattle.shape_report.proofs.Pairs.{first_none, second_none, both_read, behind_none, behind_read}
-use Rattle.shape_report.proofs.read.heading.Goals as goal
+use Rattle.shape_report.proofs.claim.heading.Goals as goal
 
 pub returns-in_err-skip : goal.returns-in_err-skip
 returns-in_err-skip g c =

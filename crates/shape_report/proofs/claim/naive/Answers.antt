@@ -5,7 +5,7 @@ use Rattle.text_terms.proofs.Words.{long_form}
 use Rattle.text_terms.specs.Forms.{signed, letter, ◌⨾◌}
 use Rattle.text_terms.specs.Fields.{row}
 use Rattle.shape_report.proofs.Pairs.{first_none, second_none, both_read}
-use Rattle.shape_report.proofs.read.naive.Goals as goal
+use Rattle.shape_report.proofs.claim.naive.Goals as goal
 
 pub returns-in_err-axis-clause-form : goal.returns-in_err-axis-clause-form
 returns-in_err-axis-clause-form c = rw c.from_residual.ensures (first_none (letter 2) (row 2 ⨾ signed w64 63) c.args.words.now c.in_err-axis.ensures)

@@ -1,5 +1,5 @@
 use Rattle.shape_report.proofs.Claims.{ends}
-use Rattle.shape_report.proofs.read.end_of.Goals as goal
+use Rattle.shape_report.proofs.claim.end_of.Goals as goal
 
 pub returns : goal.returns
 returns c = ends c.args.words.now c.end.result c.end.ensures

@@ -1,0 +1,11 @@
+use Rattle.std.proofs.Common.{◌*◌, ◌≤◌, length}
+use Rattle.text_terms.specs.Weights.{share}
+use Rattle.report_text.proofs.ShortLists.{AreListed}
+use Rattle.report_text.proofs.front_why.short_shares.Given as goal
+
+abbrev pub invariant-loop : goal.invariant-loop
+invariant-loop l = record {
+  listed : AreListed share l.bytes l.initial.end l.end (14 * l.counter) l.counter l.shares;
+  order : l.counter ≤ l.len;
+  inside : l.end ≤ length l.bytes;
+}
