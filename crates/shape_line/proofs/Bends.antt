@@ -1,9 +1,8 @@
 -- What a segment that grew backward shows of the arc in which it grew: the evidence, counted from the first place of the arc.
 -- Which arc that is stands in `Searching`.
-use Rattle.std.proofs.Common.{◌≡◌, ℕ, ◌+◌, ◌-◌, ◌*◌, ◌<◌, ◌≤◌, List, length, subst, arith}
+use Rattle.std.proofs.Common.{◌≡◌, ℕ, ◌+◌, ◌-◌, ◌*◌, ◌<◌, ◌≤◌, List, subst, arith}
 use Rattle.shape_terms.specs.Limits.{most_round}
 use Rattle.shape_terms.specs.Points.{Point}
-use Rattle.shape_terms.specs.Traces.{IsClosedPath}
 use Rattle.shape_terms.specs.Covers.{arc}
 use Rattle.shape_terms.specs.BackArcs.{back_arc}
 use Rattle.shape_terms.proofs.ArcRuns.{length-arc}

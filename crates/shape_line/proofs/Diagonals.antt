@@ -1,14 +1,14 @@
 -- A run that is straight for both axes goes along a diagonal: a line with the main coefficient 1 holds it.
 -- So a segment whose least line has a greater one is straight for its own axis alone.
-use Rattle.std.proofs.Common.{◌≡◌, ◌⊎◌, ◌≢◌, ℕ, zero, suc, ◌+◌, ◌-◌, ◌<◌, ◌≤◌, List, [], ◌∷◌, length, ap, sym, subst, ◌∙◌, refl, arith, inl, inr}
-use Rattle.std.specs.Prelude.{All, ℤ, pos, negsuc, ◌+ℤ◌, ◌-ℤ◌, ◌*ℤ◌, ◌≤ℤ◌, ◌<ℤ◌, neg_ℤ, nat_abs, take}
+use Rattle.std.proofs.Common.{◌≡◌, ◌⊎◌, ◌≢◌, ℕ, zero, suc, ◌+◌, ◌<◌, List, [], length, ap, sym, subst, ◌∙◌, refl, arith, inl, inr}
+use Rattle.std.specs.Prelude.{ℤ, pos, negsuc, ◌+ℤ◌, ◌-ℤ◌, ◌*ℤ◌, ◌≤ℤ◌, ◌<ℤ◌, neg_ℤ, nat_abs, take}
 use Rattle.std.proofs.lemmas.Int.{ints}
 use Rattle.std.proofs.lemmas.List.Elements.{All-from_get_or}
 use Rattle.std.proofs.Math.IntN.{ℤ_discrete}
 use native.Mathlib.Decide.{dec_lt}
 use Rattle.shape_terms.specs.Points.{Point, coordinate}
 use Rattle.shape_terms.specs.Vectors.{dot}
-use Rattle.shape_terms.specs.Naive.{Naive, IsProper, HoldsPoint, IsNaiveFor}
+use Rattle.shape_terms.specs.Naive.{Naive, HoldsPoint, IsNaiveFor}
 use Rattle.shape_terms.specs.Refutations.{point_at}
 use Rattle.shape_terms.specs.Turns.{IsTurn, change_at, other_axis}
 use Rattle.shape_terms.specs.Straight.{IsStraightFor}

@@ -1,5 +1,4 @@
-use Rattle.std.proofs.Common.{subst, arith}
-use Rattle.std.specs.Prelude.{pos, ◌<ℤ◌}
+use Rattle.std.proofs.Common.{arith}
 use Rattle.std.proofs.lemmas.Int.{ints}
 use Rattle.shape_line.proofs.Diagonals.{one_axis}
 use Rattle.shape_line.proofs.segment.Segment.refuses_other_axis.Goals as goal
