@@ -10,6 +10,8 @@ pub mod LeftPoints
 pub mod LeastBits
 pub mod Rounds
 pub mod Rising
+pub mod LastTaken
+pub mod NearBeside
 pub mod Touching
 pub mod PlaneSteps
 pub mod PlaneStandings

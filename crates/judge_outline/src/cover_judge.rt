@@ -330,17 +330,23 @@ impl CoverJudge {
         ensures number { self.new.number ≡ self.old.number }
         ensures room { OnTrue result (room_of self.new < room_of self.old) }
     {
-        match *line {
+        match line {
             Line::Contour {
                 p,
                 side,
                 points,
                 segments,
-            } => self.begin(Crack { p, side }, points, segments),
-            Line::At { p } => self.go_on(p),
-            Line::Seg { first, last, line } => self.take_segment(Places { first, last }, &line),
-            Line::Least { bounds } => self.take_least(&bounds),
-            Line::Gap { axis, refusal } => self.take_gap(axis, &refusal),
+            } => self.begin(Crack { p: *p, side: *side }, *points, *segments),
+            Line::At { p } => self.go_on(*p),
+            Line::Seg { first, last, line } => self.take_segment(
+                Places {
+                    first: *first,
+                    last: *last,
+                },
+                line,
+            ),
+            Line::Least { bounds } => self.take_least(bounds),
+            Line::Gap { axis, refusal } => self.take_gap(*axis, refusal),
             _ => false,
         }
     }

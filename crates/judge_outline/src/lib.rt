@@ -2,9 +2,11 @@
 //! They trace contours and find exposed points by themselves, and stand on no crate that finds segments or patches.
 #![tactic(auto)]
 
+mod beside;
 mod contour_round;
 mod cover_judge;
 mod face;
+mod lately;
 mod listed;
 mod numbered;
 mod patch_round;

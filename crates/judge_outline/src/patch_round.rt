@@ -10,6 +10,7 @@ ghost use Rattle.judge_outline.specs.Terms.{point_of};
 ghost use Rattle.judge_outline.specs.Exposure.{AreMarked, AreRound, IsNearTo, IsNearObject};
 ghost use Rattle.judge_outline.specs.Listings.{AreNumberedOf, HasRoomFor};
 
+use crate::beside::{gather_beside, point_beside};
 use crate::listed::Listed;
 use crate::numbered::{put, unmark_all};
 use shape_adj::{NearNumbers, Pairing, is_inner};
@@ -111,6 +112,34 @@ fn gather_around(left: &Grid<P3>, p: P3, marks: &mut Grid<P3>, numbers: &mut Vec
     }
 }
 
+// The same of any point of the box, by a point beside it where the box has all near neighbours of one.
+fn gather_outside(
+    left: &Grid<P3>,
+    near: &NearNumbers<P3>,
+    p: P3,
+    marks: &mut Grid<P3>,
+    numbers: &mut Vec<u32>,
+)
+    requires near_box { sides_of (point_of near.now.sides.lengths) ≡ left.now.sides }
+    requires box_ { marks.old.sides ≡ left.now.sides }
+    requires inside { IsTrue (in_box left.now.sides (point_of p)) }
+    requires numbered { AreNumberedOf left.now marks.old numbers.old.items
+        (vec_capacity numbers.old) }
+    ensures box_ { marks.new.sides ≡ left.now.sides }
+    ensures numbered { AreNumberedOf left.now marks.new numbers.new.items
+        (vec_capacity numbers.new) }
+    ensures capacity { vec_capacity numbers.new ≡ vec_capacity numbers.old }
+    ensures points { (q : Where) → IsTrue (at marks.new q) ↔ (IsTrue (at marks.old q)
+        ⊎ (IsTrue (at left.now q) × Near q (point_of p))) }
+{
+    let q = point_beside(&near.sides, p);
+    if near.all_known() && is_inner(&near.sides, q) {
+        gather_beside(left, near, p, q, marks, numbers);
+    } else {
+        gather_around(left, p, marks, numbers);
+    }
+}
+
 // Puts down the object points that are near this one.
 fn gather_round(
     left: &Grid<P3>,
@@ -134,7 +163,7 @@ fn gather_round(
     if near.all_known() && is_inner(&near.sides, p) {
         gather_inside(left, near, p, marks, numbers);
     } else {
-        gather_around(left, p, marks, numbers);
+        gather_outside(left, near, p, marks, numbers);
     }
 }
 

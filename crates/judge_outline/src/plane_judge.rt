@@ -3,7 +3,7 @@
 ghost use Rattle.std.specs.Prelude.{◌≡◌, ◌+◌, ◌-◌, ◌*◌, ◌<◌, ◌≤◌, ◌^◌, ◌↔◌, [], ◌∷◌, ◌++◌, List, length, take, drop, IsTrue, IfOk, vec_capacity};
 ghost use Rattle.std.specs.Bool.{OnTrue};
 ghost use Rattle.shape_terms.specs.Limits.{most_points};
-ghost use Rattle.shape_terms.specs.Points.{box_count};
+ghost use Rattle.shape_terms.specs.Points.{in_box, box_count};
 ghost use Rattle.shape_terms.specs.Pictures.{Picture};
 ghost use Rattle.shape_terms.specs.Naive.{IsProper};
 ghost use Rattle.shape_terms.specs.Patches.{IsFirstLeft};
@@ -16,10 +16,11 @@ ghost use Rattle.shape_refute.specs.Terms.{naive_of};
 ghost use Rattle.shape_refute.specs.Weights.{refutation_of};
 ghost use Rattle.judge_outline.specs.Terms.{point_of};
 ghost use Rattle.report_terms.specs.FaceFacts.{face_axis, face_sense};
-ghost use Rattle.judge_outline.specs.Exposure.{exposed_at, AreTouching};
+ghost use Rattle.judge_outline.specs.Exposure.{exposed_at, AreTouching, IsNearTo};
 ghost use Rattle.judge_outline.specs.PlaneState.{StandsFor, room_of, with_face, with_patch, with_on, with_off};
 
 use crate::face::{FACES, axis_of, expose_all, sense_in};
+use crate::lately::touches_last;
 use crate::listed::Listed;
 use crate::patch_round::{find_round, touches};
 use crate::recent::{mark, unmark};
@@ -218,6 +219,14 @@ impl PlaneJudge {
         }
     }
 
+    // Whether a point of the box is near one of the patch that was begun last.
+    fn is_beside(&self, p: P3) -> bool
+        requires { IsTrue (in_box self.now.picture.sides (point_of p)) }
+        ensures { IsTrue result ↔ IsNearTo self.now.standing.patch.points (point_of p) }
+    {
+        touches_last(&self.taken, self.start, p) || touches(&self.near, &self.recent, p)
+    }
+
     // Whether a point is the next of the patch that was begun last.
     fn is_next(&mut self, p: P3) -> bool
         requires { 0 < self.old.standing.begun }
@@ -229,7 +238,7 @@ impl PlaneJudge {
         if self.taken.len() == self.start {
             return self.is_first(p);
         }
-        self.left.has(p) && touches(&self.near, &self.recent, p)
+        self.left.has(p) && self.is_beside(p)
     }
 
     // Takes an `on` line.
@@ -312,15 +321,15 @@ impl PlaneJudge {
             → OnTrue result (StandsFor X self.new (lines ++ line_of point_of line.now ∷ [])) }
         ensures room { OnTrue result (room_of self.new < room_of self.old) }
     {
-        match *line {
+        match line {
             Line::Face {
                 axis,
                 sense,
                 points,
-            } => self.begin(axis, sense, points),
-            Line::Patch { points, a, mu } => self.begin_patch(points, a, mu),
-            Line::On { p } => self.take_on(p),
-            Line::Off { p, why } => self.take_off(p, &why),
+            } => self.begin(*axis, *sense, *points),
+            Line::Patch { points, a, mu } => self.begin_patch(*points, *a, *mu),
+            Line::On { p } => self.take_on(*p),
+            Line::Off { p, why } => self.take_off(*p, why),
             _ => false,
         }
     }

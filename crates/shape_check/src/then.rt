@@ -55,6 +55,7 @@ impl<P: Point, J: SectionJudge<P>, R: Judges<P>> Judges<P> for Then<J, R> {
 
     ghost room = { λ t. J.room t.first + R.room t.rest };
 
+    #[inline(always)]
     fn take(&mut self, line: &Line<P>, rule: &mut dyn EndRule) -> Result<bool, NoMemory> {
         if self.is_past {
             return self.rest.take(line, rule);
