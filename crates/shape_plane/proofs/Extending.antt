@@ -1,7 +1,7 @@
 -- A list of points with one more put last, as the program keeps it, and back to what it was.
 -- What is decided of the longer list belongs elsewhere.
 use Rattle.std.proofs.Common.{◌≡◌, ℕ, ◌+◌, ◌-◌, ◌<◌, ◌≤◌, ◌^◌, List, [], ◌∷◌, ◌++◌, length, map, take, ap, sym, subst, ◌∙◌, arith}
-use Rattle.std.specs.Prelude.{ℤ, pos, ◌-ℤ◌}
+use Rattle.std.specs.Prelude.{ℤ, pos, ◌-ℤ◌, Bool, Option, Some, None}
 use Rattle.std.specs.Result.{IsErr}
 use Rattle.std.specs.declared.result.Result.{Result}
 use Rattle.std.specs.declared.result.Result.TheVariants.{Ok, Err}
@@ -21,11 +21,8 @@ use Rattle.shape_plane.specs.Knowing.{IsMark}
 use Rattle.shape_plane.specs.Pairs.{AreInside, IsPair}
 use Rattle.shape_plane.specs.Systems.{bounding_rows}
 use Rattle.shape_plane.specs.declared.held.Held.{Held}
-use Rattle.shape_plane.specs.declared.verdict.Decided.{Decided}
-use Rattle.shape_plane.specs.declared.verdict.Decided.TheVariants.{Flat, Refused}
 use Rattle.shape_plane.specs.Verdicts.{IsDecided, IsKept, IsRefuted, AreRowsOf, HasGrown}
-use Rattle.shape_plane.specs.declared.growing.Added.{Added}
-use Rattle.shape_plane.specs.Growth.{Grown, HasExtended, IsAdded}
+use Rattle.shape_plane.specs.Growth.{Grown, HasExtended, IsOffered}
 use Rattle.shape_plane.proofs.Adding.{one_more}
 
 -- ---- the longer list
@@ -54,23 +51,28 @@ rows_none n t points rows e = record { pairs = []; places = λ k d l. absurd (om
 
 -- ---- what is decided of it
 
-pub flat_extended : {Q : Type 0} (f : Q → Point) (d t : ℕ) (old mid new : List Q) (p : Q) (v : Decided) (h : Held) → new ≡ old ++ p ∷ [] → mid ≡ new
-    → v ≡ Flat h → IsDecided d t (map f mid) v → (new ≡ old ++ p ∷ []) × IsKept d t (map f new) h
-flat_extended f d t old mid new p v h e m i k = (e, subst (λ (l : List Point). IsKept d t l h) (ap (map f) m) (subst (IsDecided d t (map f mid)) i k))
+pub flat_extended : {Q : Type 0} (f : Q → Point) (d t : ℕ) (old mid new : List Q) (p : Q) (v : Option Held) (h : Held) (why : Refutation)
+    → new ≡ old ++ p ∷ [] → mid ≡ new → v ≡ Some h → IsDecided d t (map f mid) v why → (new ≡ old ++ p ∷ []) × IsKept d t (map f new) h
+flat_extended f d t old mid new p v h why e m i k =
+    (e, subst (λ (l : List Point). IsKept d t l h) (ap (map f) m) (subst (λ (o : Option Held). IsDecided d t (map f mid) o why) i k))
 
-pub refused_extended : {Q : Type 0} (f : Q → Point) (d t : ℕ) (old mid new : List Q) (p : Q) (v : Decided) (why : Refutation) → new ≡ old → mid ≡ old ++ p ∷ []
-    → v ≡ Refused why → IsDecided d t (map f mid) v → (new ≡ old) × IsRefuted d t (map f (old ++ p ∷ [])) (refutation_of why)
-refused_extended f d t old mid new p v why e m i k =
-    (e, subst (λ (l : List Point). IsRefuted d t l (refutation_of why)) (ap (map f) m) (subst (IsDecided d t (map f mid)) i k))
+pub refused_extended : {Q : Type 0} (f : Q → Point) (d t : ℕ) (old mid new : List Q) (p : Q) (v : Option Held) (why : Refutation) → new ≡ old → mid ≡ old ++ p ∷ []
+    → v ≡ None → IsDecided d t (map f mid) v why → (new ≡ old) × IsRefuted d t (map f (old ++ p ∷ [])) (refutation_of why)
+refused_extended f d t old mid new p v why e m i k = (
+  e,
+  subst (λ (l : List Point). IsRefuted d t l (refutation_of why)) (ap (map f) m)
+      (subst (λ (o : Option Held). IsDecided d t (map f mid) o why) i k),
+)
 
-pub err_extended : {Q E : Type 0} (f : Q → Point) (d t : ℕ) (old new : List Q) (p : Q) (r : Result Decided E) → IsErr r → new ≡ old
-    → HasExtended f d t old new p r
-err_extended f d t old new p (Ok v) i h = absurd (false≢true i)
-err_extended f d t old new p (Err e) i h = h
+pub err_extended : {Q E : Type 0} (f : Q → Point) (d t : ℕ) (old new : List Q) (p : Q) (r : Result (Option Held) E) (why : Refutation) → IsErr r → new ≡ old
+    → HasExtended f d t old new p r why
+err_extended f d t old new p (Ok v) why i h = absurd (false≢true i)
+err_extended f d t old new p (Err e) why i h = h
 
-pub err_added : {E : Type 0} (d : ℕ) (old new : Grown) (p : Point) (r : Result Added E) → IsErr r → new ≡ old → IsAdded d old new p r
-err_added d old new p (Ok v) i h = absurd (false≢true i)
-err_added d old new p (Err e) i h = h
+pub err_offered : {E : Type 0} (d : ℕ) (old new : Grown) (p : Point) (r : Result Bool E) (why : Refutation) → IsErr r → new ≡ old
+    → IsOffered d old new p r why
+err_offered d old new p (Ok v) why i h = absurd (false≢true i)
+err_offered d old new p (Err e) why i h = h
 
 -- ---- back to a mark
 

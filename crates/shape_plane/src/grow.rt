@@ -9,20 +9,23 @@ ghost use Rattle.shape_plane.specs.Trials.{spread_of, IsTried, IsLater, IsSettle
 ghost use Rattle.shape_plane.specs.Rounds.{IsGoing};
 
 use crate::around::Around;
-use crate::growing::{Added, Growing};
+use crate::growing::Growing;
 use crate::refusals::{Refusals, Refused};
+use crate::weights::nothing;
 use shape_adj::{NearNumbers, Pairing};
 use shape_grid::Grid;
+use shape_refute::Refutation;
 use shape_space::{NoMemory, Point};
 use std::alloc::Global;
 
-// Tries a point that is left.
+// Tries a point that is left. Weights of a refusal are written into `why`.
 fn try_point<P: Point>(
     growing: &mut Growing<P>,
     left: &mut Grid<P>,
     tried: &mut Grid<P>,
     refused: &mut Refusals<P>,
     q: P,
+    why: &mut Refutation,
 ) -> Result<(), NoMemory>
     requires inside { IsWithin (pos 0) (P.MAX_SIDE -ℤ pos 1) (P.coords q) }
     requires few { length growing.old.points < 2 ^ 31 - 1 }
@@ -33,17 +36,16 @@ fn try_point<P: Point>(
         (spread_of growing.old.points left.old tried.old refused.old) (P.coords q)
         (spread_of growing.new.points left.new tried.new refused.new)) }
 {
-    match growing.try_add(q)? {
-        Added::Yes => left.clear(q),
-        Added::No(why) => {
-            tried.set(q);
-            refused.push(Refused {
-                point: q,
-                number: left.sides().raster(q),
-                why,
-                count: growing.len(),
-            })?;
-        }
+    if growing.add_or_refute(q, why)? {
+        left.clear(q);
+    } else {
+        tried.set(q);
+        refused.push(Refused {
+            point: q,
+            number: left.sides().raster(q),
+            why: *why,
+            count: growing.len(),
+        })?;
     }
     Ok(())
 }
@@ -56,6 +58,7 @@ fn try_neighbour<P: Pairing>(
     refused: &mut Refusals<P>,
     around: &Around<'_, P>,
     n: usize,
+    why: &mut Refutation,
 ) -> Result<(), NoMemory>
     requires below { n < P.NEAR_COUNT }
     requires point { Contains growing.old.points (P.coords around.now.point) }
@@ -82,7 +85,7 @@ fn try_neighbour<P: Pairing>(
     if !around.is_open(left, tried, n) {
         return Ok(());
     }
-    try_point(growing, left, tried, refused, around.point.near(n))?;
+    try_point(growing, left, tried, refused, around.point.near(n), why)?;
     Ok(())
 }
 
@@ -93,6 +96,7 @@ fn spread<P: Pairing>(
     tried: &mut Grid<P>,
     refused: &mut Refusals<P>,
     around: &Around<'_, P>,
+    why: &mut Refutation,
 ) -> Result<(), NoMemory>
     requires point { Contains growing.old.points (P.coords around.now.point) }
     requires near { sides_of (P.coords around.now.near.now.sides.lengths) ≡ left.old.sides }
@@ -117,7 +121,7 @@ fn spread<P: Pairing>(
     while rest != 0 {
         let n = rest.trailing_zeros() as usize;
         rest &= !(1u32 << n);
-        try_neighbour(growing, left, tried, refused, around, n)?;
+        try_neighbour(growing, left, tried, refused, around, n, why)?;
     }
     Ok(())
 }
@@ -137,6 +141,7 @@ fn spread_from<P: Pairing>(
     refused: &mut Refusals<P>,
     near: &NearNumbers<P>,
     k: u32,
+    why: &mut Refutation,
 ) -> Result<(), NoMemory>
     requires place { k < length growing.old.points }
     requires near { sides_of (P.coords near.now.sides.lengths) ≡ left.old.sides }
@@ -149,7 +154,7 @@ fn spread_from<P: Pairing>(
 {
     left.is_picture();
     let around = Around::new(near, growing.point(k));
-    spread(growing, left, tried, refused, &around)?;
+    spread(growing, left, tried, refused, &around, why)?;
     Ok(())
 }
 
@@ -176,9 +181,10 @@ pub fn grow<P: Pairing>(
     let mut growing = Growing::first(alloc, p, axis)?;
     left.clear(p);
     let mut refused = Refusals::new(alloc);
+    let mut why = nothing();
     let mut k = 0;
     while k < growing.len() {
-        spread_from(&mut growing, left, tried, &mut refused, near, k)?;
+        spread_from(&mut growing, left, tried, &mut refused, near, k, &mut why)?;
         k += 1;
     }
     Ok(Grown { growing, refused })

@@ -4,12 +4,13 @@ ghost use Rattle.std.specs.Prelude.{◌≡◌, ◌<◌, ◌^◌, ◌+◌, ◌-�
 ghost use Rattle.shape_terms.specs.FramedBox.{IsWithin};
 ghost use Rattle.shape_plane.specs.Pairs.{AreInside, IsPair};
 ghost use Rattle.shape_plane.specs.Verdicts.{IsHeld, IsFlatFor, AreRowsOf};
-ghost use Rattle.shape_plane.specs.Growth.{HasExtended, IsAdded, says_yes};
+ghost use Rattle.shape_plane.specs.Growth.{HasExtended, IsAdded, IsOffered, says_yes};
 
 use crate::held::{Held, Tested, try_last};
 use crate::known::Known;
 use crate::pair::Pair;
-use crate::verdict::{Decided, decide_by, decide_with};
+use crate::verdict::{decide_by, decide_with};
+use crate::weights::nothing;
 use shape_refute::{Naive, Refutation};
 use shape_space::{NoMemory, Point};
 use std::alloc::Global;
@@ -24,7 +25,7 @@ pub enum Added {
     No(Refutation),
 }
 
-// Puts a point last, where some line or plane of the axis holds the points with it; else nothing changes.
+// Puts a point last, where some line or plane of the axis holds the points with it; else nothing changes but the weights in `why`.
 //
 // The pair is of the points with this one, and is not met by what holds the others. The pairs that a refused point brought are
 // forgotten, also those of other points: slopes are found in time by the number of pairs.
@@ -34,7 +35,8 @@ fn extend<P: Point>(
     axis: usize,
     p: P,
     pair: Pair,
-) -> Result<Decided, NoMemory>
+    why: &mut Refutation,
+) -> Result<Option<Held>, NoMemory>
     requires axis { axis < P.DIM }
     requires few { length points.old.items < 2 ^ 31 - 1 }
     requires inside { AreInside P.MAX_SIDE (map P.coords points.old.items) }
@@ -43,19 +45,19 @@ fn extend<P: Point>(
     requires known { AreRowsOf (length points.old.items) axis
         (map P.coords points.old.items) known.old }
     ensures extended { HasExtended P.coords P.DIM axis
-        points.old.items points.new.items p result }
+        points.old.items points.new.items p result why.new }
     ensures known { AreRowsOf (length points.new.items) axis
         (map P.coords points.new.items) known.new }
 {
     let count = points.len();
     let mark = known.mark();
     points.push(p)?;
-    match decide_by(points, axis, known, pair) {
-        Ok(Decided::Flat(held)) => Ok(Decided::Flat(held)),
-        Ok(Decided::Refused(why)) => {
+    match decide_by(points, axis, known, pair, why) {
+        Ok(Some(held)) => Ok(Some(held)),
+        Ok(None) => {
             points.truncate(count);
             known.reset(mark);
-            Ok(Decided::Refused(why))
+            Ok(None)
         }
         Err(e) => {
             points.truncate(count);
@@ -97,14 +99,15 @@ impl<P: Point> Growing<P> {
         let mut points = Vec::new(alloc);
         points.push(p)?;
         let mut known = Known::new(alloc, axis)?;
-        match decide_with(&points, axis, &mut known)? {
-            Decided::Flat(held) => Ok(Growing {
+        let mut why = nothing();
+        match decide_with(&points, axis, &mut known, &mut why)? {
+            Some(held) => Ok(Growing {
                 points,
                 known,
                 axis,
                 held,
             }),
-            Decided::Refused(_) => unreachable!(),
+            None => unreachable!(),
         }
     }
 
@@ -135,31 +138,47 @@ impl<P: Point> Growing<P> {
         ensures exactly { IfOk result (λ a. IsTrue (says_yes a)
             ↔ IsFlatFor self.old.axis (self.old.points ++ P.coords p ∷ [])) }
     {
+        let mut why = nothing();
+        if self.add_or_refute(p, &mut why)? {
+            Ok(Added::Yes)
+        } else {
+            Ok(Added::No(why))
+        }
+    }
+
+    /// The same, as whether the point was taken; where it was not, the weights stand in `why`.
+    pub fn add_or_refute(&mut self, p: P, why: &mut Refutation) -> Result<bool, NoMemory>
+        requires inside { IsWithin (pos 0) (P.MAX_SIDE -ℤ pos 1) (P.coords p) }
+        requires few { length self.old.points < 2 ^ 31 - 1 }
+        ensures added { IsOffered P.DIM self.old self.new (P.coords p) result why.new }
+        ensures exactly { IfOk result (λ b. IsTrue b
+            ↔ IsFlatFor self.old.axis (self.old.points ++ P.coords p ∷ [])) }
+    {
         match try_last(self.axis, &self.held, self.points.len() as u32, p) {
             Tested::Holds(held) => {
                 self.points.push(p)?;
                 self.held = held;
-                Ok(Added::Yes)
+                Ok(true)
             }
-            Tested::Breaks(pair) => self.add_by(p, pair),
+            Tested::Breaks(pair) => self.add_by(p, pair, why),
         }
     }
 
     // The same, where the present line or plane breaks this pair.
-    fn add_by(&mut self, p: P, pair: Pair) -> Result<Added, NoMemory>
+    fn add_by(&mut self, p: P, pair: Pair, why: &mut Refutation) -> Result<bool, NoMemory>
         requires inside { IsWithin (pos 0) (P.MAX_SIDE -ℤ pos 1) (P.coords p) }
         requires few { length self.old.points < 2 ^ 31 - 1 }
         requires pair { IsPair (length self.old.points + 1) pair }
-        ensures added { IsAdded P.DIM self.old self.new (P.coords p) result }
-        ensures exactly { IfOk result (λ a. IsTrue (says_yes a)
+        ensures added { IsOffered P.DIM self.old self.new (P.coords p) result why.new }
+        ensures exactly { IfOk result (λ b. IsTrue b
             ↔ IsFlatFor self.old.axis (self.old.points ++ P.coords p ∷ [])) }
     {
-        match extend(&mut self.points, &mut self.known, self.axis, p, pair)? {
-            Decided::Flat(held) => {
+        match extend(&mut self.points, &mut self.known, self.axis, p, pair, why)? {
+            Some(held) => {
                 self.held = held;
-                Ok(Added::Yes)
+                Ok(true)
             }
-            Decided::Refused(why) => Ok(Added::No(why)),
+            None => Ok(false),
         }
     }
 

@@ -1,5 +1,5 @@
 //! The verdict on a list of points for an axis: a line or plane that holds it, or weights that refute all of them.
-//! Pairs are added one at a time, until the slopes that meet them break none.
+//! Pairs are added one at a time, until the slopes that meet them break none. Weights are written where the caller has room for them.
 ghost use Rattle.std.specs.Prelude.{◌≡◌, ◌<◌, ◌≤◌, ◌^◌, ◌↔◌, IsTrue, IfOk, map, length};
 ghost use Rattle.shape_plane.specs.Pairs.{AreInside, IsPair};
 ghost use Rattle.shape_plane.specs.Verdicts.{IsVerdict, IsDecided, IsFlatFor, AreRowsOf, HasGrown, is_flat as says_flat, verdict_told as told};
@@ -8,6 +8,7 @@ use crate::answer::Solved;
 use crate::held::{Held, Tested, try_slopes};
 use crate::known::Known;
 use crate::pair::Pair;
+use crate::weights::nothing;
 use shape_refute::{Naive, Refutation};
 use shape_space::{NoMemory, Point};
 use std::alloc::Global;
@@ -21,35 +22,34 @@ pub enum Verdict {
     Refused(Refutation),
 }
 
-/// The same, with the extremes of the line or plane.
-#[derive(Clone, Copy)]
-pub enum Decided {
-    Flat(Held),
-    Refused(Refutation),
-}
-
-/// The verdict on a list, where some pairs of it are known. Those that were added stand behind them.
+/// The line or plane that holds a list, where some pairs of it are known; none where the weights in `why` refute the list. The pairs that
+/// were added stand behind those that were known.
 ///
 /// Each round adds a pair that the slopes of the pairs before it break, so it was not among them; there are no more rounds than pairs.
 pub fn decide_with<P: Point>(
     points: &[P],
     axis: usize,
     known: &mut Known,
-) -> Result<Decided, NoMemory>
+    why: &mut Refutation,
+) -> Result<Option<Held>, NoMemory>
     requires axis { axis < P.DIM }
     requires some { 1 ≤ length points.now }
     requires few { length points.now < 2 ^ 31 }
     requires inside { AreInside P.MAX_SIDE (map P.coords points.now) }
     requires known { AreRowsOf (length points.now) axis (map P.coords points.now) known.old }
-    ensures decided { IfOk result (IsDecided P.DIM axis (map P.coords points.now)) }
+    ensures decided { IfOk result
+        (λ h. IsDecided P.DIM axis (map P.coords points.now) h why.new) }
     ensures grown { HasGrown (length points.now) axis
         (map P.coords points.now) known.old known.new }
 {
     for _round in 0..u64::MAX {
         match known.solve(points, axis) {
-            Solved::Clash(why) => return Ok(Decided::Refused(why)),
+            Solved::Clash(weights) => {
+                *why = weights;
+                return Ok(None);
+            }
             Solved::Slopes(s) => match try_slopes(points, axis, &s.a) {
-                Tested::Holds(held) => return Ok(Decided::Flat(held)),
+                Tested::Holds(held) => return Ok(Some(held)),
                 Tested::Breaks(pair) => known.add(points, axis, pair)?,
             },
         }
@@ -64,28 +64,30 @@ pub fn decide_by<P: Point>(
     axis: usize,
     known: &mut Known,
     pair: Pair,
-) -> Result<Decided, NoMemory>
+    why: &mut Refutation,
+) -> Result<Option<Held>, NoMemory>
     requires axis { axis < P.DIM }
     requires some { 1 ≤ length points.now }
     requires few { length points.now < 2 ^ 31 }
     requires inside { AreInside P.MAX_SIDE (map P.coords points.now) }
     requires pair { IsPair (length points.now) pair }
     requires known { AreRowsOf (length points.now) axis (map P.coords points.now) known.old }
-    ensures decided { IfOk result (IsDecided P.DIM axis (map P.coords points.now)) }
+    ensures decided { IfOk result
+        (λ h. IsDecided P.DIM axis (map P.coords points.now) h why.new) }
     ensures grown { HasGrown (length points.now) axis
         (map P.coords points.now) known.old known.new }
 {
     known.add(points, axis, pair)?;
-    decide_with(points, axis, known)
+    decide_with(points, axis, known, why)
 }
 
 // The verdict without the extremes.
-fn verdict_of(d: Decided) -> Verdict
-    ensures { result ≡ told d }
+fn verdict_of(held: Option<Held>, why: Refutation) -> Verdict
+    ensures { result ≡ told held why }
 {
-    match d {
-        Decided::Flat(held) => Verdict::Flat(held.plane),
-        Decided::Refused(why) => Verdict::Refused(why),
+    match held {
+        Some(held) => Verdict::Flat(held.plane),
+        None => Verdict::Refused(why),
     }
 }
 
@@ -105,6 +107,7 @@ pub fn decide<P: Point>(alloc: Global, points: &[P], axis: usize) -> Result<Verd
         ↔ IsFlatFor axis (map P.coords points.now)) }
 {
     let mut known = Known::new(alloc, axis)?;
-    let decided = decide_with(points, axis, &mut known)?;
-    Ok(verdict_of(decided))
+    let mut why = nothing();
+    let held = decide_with(points, axis, &mut known, &mut why)?;
+    Ok(verdict_of(held, why))
 }

@@ -13,8 +13,8 @@ use crate::pair::Pair;
 use crate::row::{Cause, Row, read};
 use shape_refute::{Refutation, Share, Shares, Step, StepShare, StepShares};
 
-// No weights.
-fn nothing() -> Refutation
+/// No weights.
+pub fn nothing() -> Refutation
     ensures { refutation_of result ≡ no_weights }
 {
     Refutation {

@@ -41,27 +41,27 @@ reset-requires-in-Err g c =
     marked_again (length c.deref.result.now) c.args.axis (map g.P.Point.coords c.deref.result.now) c.mark-mark.result c.args.known.now c.decide_by.new.known
     c.mark-mark.ensures c.decide_by.ensures.grown
 
-pub returns-in-Ok-Flat-clause-extended : goal.returns-in-Ok-Flat-clause-extended
-returns-in-Ok-Flat-clause-extended g c =
+pub returns-in-Ok-Some-clause-extended : goal.returns-in-Ok-Some-clause-extended
+returns-in-Ok-Some-clause-extended g c =
     let items = c.in_ok-push.ensures.items in
-    flat_extended g.P.Point.coords g.P.Point.DIM c.args.axis c.args.points.now.items c.deref.result.now c.push.new.self.items c.args.p c.in-Ok-Flat.field-0
-    c.in-Ok-Flat.held items c.deref.ensures.value c.in-Ok-Flat.field-0-is c.in-Ok-Flat.ensures.decided
+    flat_extended g.P.Point.coords g.P.Point.DIM c.args.axis c.args.points.now.items c.deref.result.now c.push.new.self.items c.args.p c.in-Ok-Some.field-0
+    c.in-Ok-Some.held c.decide_by.new.why items c.deref.ensures.value c.in-Ok-Some.field-0-is c.in-Ok-Some.ensures.decided
 
-pub returns-in-Ok-Flat-clause-known : goal.returns-in-Ok-Flat-clause-known
-returns-in-Ok-Flat-clause-known g c =
+pub returns-in-Ok-Some-clause-known : goal.returns-in-Ok-Some-clause-known
+returns-in-Ok-Some-clause-known g c =
     rows_same g.P.Point.coords c.args.axis c.deref.result.now c.push.new.self.items c.decide_by.new.known c.decide_by.new.known (sym c.deref.ensures.value) refl
     c.decide_by.ensures.grown.rows
 
-pub returns-in-Ok-Refused-clause-extended : goal.returns-in-Ok-Refused-clause-extended
-returns-in-Ok-Refused-clause-extended g c =
+pub returns-in-Ok-None-clause-extended : goal.returns-in-Ok-None-clause-extended
+returns-in-Ok-None-clause-extended g c =
     let items = c.in_ok-push.ensures.items in
     refused_extended g.P.Point.coords g.P.Point.DIM c.args.axis c.args.points.now.items c.deref.result.now c.truncate.new.self.items c.args.p
-    c.in-Ok-Refused.field-0 c.in-Ok-Refused.why
+    c.in-Ok-None.field-0 c.decide_by.new.why
     (taken_back c.args.points.now.items c.push.new.self.items c.truncate.new.self.items c.args.p c.len-count.result items c.truncate.ensures.items
-    (c.len-count.ensures ∙ c.args.points.now.ok.0)) (c.deref.ensures.value ∙ items) c.in-Ok-Refused.field-0-is c.in-Ok-Refused.ensures.decided
+    (c.len-count.ensures ∙ c.args.points.now.ok.0)) (c.deref.ensures.value ∙ items) c.in-Ok-None.field-0-is c.in-Ok-None.ensures.decided
 
-pub returns-in-Ok-Refused-clause-known : goal.returns-in-Ok-Refused-clause-known
-returns-in-Ok-Refused-clause-known g c =
+pub returns-in-Ok-None-clause-known : goal.returns-in-Ok-None-clause-known
+returns-in-Ok-None-clause-known g c =
     let items = c.in_ok-push.ensures.items in
     rows_same g.P.Point.coords c.args.axis c.args.points.now.items c.truncate.new.self.items c.args.known.now c.reset.new.self
     (taken_back c.args.points.now.items c.push.new.self.items c.truncate.new.self.items c.args.p c.len-count.result items c.truncate.ensures.items
@@ -92,4 +92,4 @@ returns-in_err-push-clause-known g c =
 pub returns-in_err-push-clause-extended : goal.returns-in_err-push-clause-extended
 returns-in_err-push-clause-extended g c =
     err_extended g.P.Point.coords g.P.Point.DIM c.args.axis c.args.points.now.items c.push.new.self.items c.args.p c.from_residual.result
-    c.from_residual.ensures.0 c.in_err-push.ensures.items
+    c.args.why.now c.from_residual.ensures.0 c.in_err-push.ensures.items

@@ -42,7 +42,7 @@ try_slopes-requires-clause-proper g c =
 pub returns-in-Clash-clause-decided : goal.returns-in-Clash-clause-decided
 returns-in-Clash-clause-decided g c =
     let h = c.loop-round.invariant.rows in
-    clash_refutes g.P.Point.DIM c.args.axis (map g.P.Point.coords c.args.points.now) h.pairs c.solve.result c.in-Clash.why c.in-Clash.is
+    clash_refutes g.P.Point.DIM c.args.axis (map g.P.Point.coords c.args.points.now) h.pairs c.solve.result c.in-Clash.weights c.in-Clash.is
     (c.solve.ensures h.pairs h.places h.same)
 
 pub returns-in-Holds-clause-decided : goal.returns-in-Holds-clause-decided

@@ -6,50 +6,50 @@ use Rattle.shape_refute.specs.Weights.{refutation_of}
 use Rattle.shape_plane.specs.Verdicts.{IsHeld, IsRefuted, IsFlatFor, AreRowsOf}
 use Rattle.shape_plane.specs.Growth.{Grown}
 use Rattle.shape_plane.proofs.Adding.{one_more, grows_found, grows_kept, is_flat, not_flat, extended_flat, extended_refused}
-use Rattle.shape_plane.proofs.Extending.{few_shown, pair_shown, shown, same_shown, err_added, added_flat, added_refused}
+use Rattle.shape_plane.proofs.Extending.{few_shown, pair_shown, shown, same_shown, err_offered, added_flat, added_refused}
 use Rattle.shape_plane.proofs.growing.Growing.add_by.Goals as goal
 
-pub invariant_of-self-in-Flat : goal.invariant_of-self-in-Flat
-invariant_of-self-in-Flat g c =
+pub invariant_of-self-in-Some : goal.invariant_of-self-in-Some
+invariant_of-self-in-Some g c =
     let x = extended_flat g.P.Point.coords g.P.Point.DIM c.self.inside.axis c.self.inside.points.items c.extend.new.points.items c.args.p c.in_ok-held.field-0
-    c.in-Flat.held c.in-Flat.is c.in_ok-held.ensures.extended in
+    c.in-Some.held c.extend.new.why c.in-Some.is c.in_ok-held.ensures.extended in
     let e : map g.P.Point.coords c.extend.new.points.items ≡ map g.P.Point.coords c.self.inside.points.items ++ g.P.Point.coords c.args.p ∷ [] =
     ap (map g.P.Point.coords) x.0 ∙ one_more g.P.Point.coords c.self.inside.points.items c.args.p in
     let few : length (map g.P.Point.coords c.self.inside.points.items) < 2 ^ 31 - 1 = rw (ap (λ (v : Grown). length v.points) c.self.view_is) c.requires.few in
     grows_found g.P.Point.DIM g.P.Point.MAX_SIDE c.self.inside.axis (map g.P.Point.coords c.self.inside.points.items)
-    (map g.P.Point.coords c.extend.new.points.items) (g.P.Point.coords c.args.p) c.self.inside.known c.extend.new.known c.self.inside.held c.in-Flat.held
+    (map g.P.Point.coords c.extend.new.points.items) (g.P.Point.coords c.args.p) c.self.inside.known c.extend.new.known c.self.inside.held c.in-Some.held
     c.self.invariant c.requires.inside few e
     (subst (λ (n : ℕ). AreRowsOf n c.self.inside.axis (map g.P.Point.coords c.extend.new.points.items) c.extend.new.known)
     (sym (length-map c.extend.new.points.items g.P.Point.coords)) c.extend.ensures.known) x.1
 
-pub invariant_of-self-in-Refused : goal.invariant_of-self-in-Refused
-invariant_of-self-in-Refused g c =
+pub invariant_of-self-in-None : goal.invariant_of-self-in-None
+invariant_of-self-in-None g c =
     let x = extended_refused g.P.Point.coords g.P.Point.DIM c.self.inside.axis c.self.inside.points.items c.extend.new.points.items c.args.p
-    c.in_ok-held.field-0 c.in-Refused.why c.in-Refused.is c.in_ok-held.ensures.extended in
+    c.in_ok-held.field-0 c.extend.new.why c.in-None.is c.in_ok-held.ensures.extended in
     grows_kept g.P.Point.DIM g.P.Point.MAX_SIDE c.self.inside.axis (map g.P.Point.coords c.self.inside.points.items)
     (map g.P.Point.coords c.extend.new.points.items) c.self.inside.known c.extend.new.known c.self.inside.held
     c.self.invariant (ap (map g.P.Point.coords) x.0)
     (subst (λ (n : ℕ). AreRowsOf n c.self.inside.axis (map g.P.Point.coords c.extend.new.points.items) c.extend.new.known)
     (sym (length-map c.extend.new.points.items g.P.Point.coords)) c.extend.ensures.known)
 
-pub returns-in-Flat-clause-exactly : goal.returns-in-Flat-clause-exactly
-returns-in-Flat-clause-exactly g c =
+pub returns-in-Some-clause-exactly : goal.returns-in-Some-clause-exactly
+returns-in-Some-clause-exactly g c =
     let x = extended_flat g.P.Point.coords g.P.Point.DIM c.self.inside.axis c.self.inside.points.items c.extend.new.points.items c.args.p c.in_ok-held.field-0
-    c.in-Flat.held c.in-Flat.is c.in_ok-held.ensures.extended in
+    c.in-Some.held c.extend.new.why c.in-Some.is c.in_ok-held.ensures.extended in
     let e : map g.P.Point.coords c.extend.new.points.items ≡ map g.P.Point.coords c.self.inside.points.items ++ g.P.Point.coords c.args.p ∷ [] =
     ap (map g.P.Point.coords) x.0 ∙ one_more g.P.Point.coords c.self.inside.points.items c.args.p in
     subst (λ (v : Grown). IsTrue true ↔ IsFlatFor v.axis (v.points ++ g.P.Point.coords c.args.p ∷ [])) c.self.view_is
-    (is_flat g.P.Point.DIM c.self.inside.axis (map g.P.Point.coords c.self.inside.points.items ++ g.P.Point.coords c.args.p ∷ []) c.in-Flat.held.plane
-    (subst (λ (l : List Point). IsHeld g.P.Point.DIM c.self.inside.axis l c.in-Flat.held.plane) e x.1.held))
+    (is_flat g.P.Point.DIM c.self.inside.axis (map g.P.Point.coords c.self.inside.points.items ++ g.P.Point.coords c.args.p ∷ []) c.in-Some.held.plane
+    (subst (λ (l : List Point). IsHeld g.P.Point.DIM c.self.inside.axis l c.in-Some.held.plane) e x.1.held))
 
-pub returns-in-Refused-clause-exactly : goal.returns-in-Refused-clause-exactly
-returns-in-Refused-clause-exactly g c =
+pub returns-in-None-clause-exactly : goal.returns-in-None-clause-exactly
+returns-in-None-clause-exactly g c =
     let x = extended_refused g.P.Point.coords g.P.Point.DIM c.self.inside.axis c.self.inside.points.items c.extend.new.points.items c.args.p
-    c.in_ok-held.field-0 c.in-Refused.why c.in-Refused.is c.in_ok-held.ensures.extended in
+    c.in_ok-held.field-0 c.extend.new.why c.in-None.is c.in_ok-held.ensures.extended in
     subst (λ (v : Grown). IsTrue false ↔ IsFlatFor v.axis (v.points ++ g.P.Point.coords c.args.p ∷ [])) c.self.view_is
     (not_flat g.P.Point.DIM c.self.inside.axis (map g.P.Point.coords c.self.inside.points.items ++ g.P.Point.coords c.args.p ∷ [])
-    (refutation_of c.in-Refused.why)
-    (subst (λ (l : List Point). IsRefuted g.P.Point.DIM c.self.inside.axis l (refutation_of c.in-Refused.why))
+    (refutation_of c.extend.new.why)
+    (subst (λ (l : List Point). IsRefuted g.P.Point.DIM c.self.inside.axis l (refutation_of c.extend.new.why))
     (one_more g.P.Point.coords c.self.inside.points.items c.args.p) x.1))
 
 pub extend-requires-clause-axis : goal.extend-requires-clause-axis
@@ -71,18 +71,18 @@ extend-requires-clause-known g c =
     subst (λ (n : ℕ). AreRowsOf n c.self.inside.axis (map g.P.Point.coords c.self.inside.points.items) c.self.inside.known)
     (length-map c.self.inside.points.items g.P.Point.coords) c.self.invariant.rows
 
-pub returns-in-Flat-clause-added : goal.returns-in-Flat-clause-added
-returns-in-Flat-clause-added g c =
+pub returns-in-Some-clause-added : goal.returns-in-Some-clause-added
+returns-in-Some-clause-added g c =
     let x = extended_flat g.P.Point.coords g.P.Point.DIM c.self.inside.axis c.self.inside.points.items c.extend.new.points.items c.args.p c.in_ok-held.field-0
-    c.in-Flat.held c.in-Flat.is c.in_ok-held.ensures.extended in
+    c.in-Some.held c.extend.new.why c.in-Some.is c.in_ok-held.ensures.extended in
     added_flat g.P.Point.coords c.self.inside.axis c.self.inside.points.items c.args.self.now c.self.view_is c.extend.new.points.items c.args.p x.0
 
-pub returns-in-Refused-clause-added : goal.returns-in-Refused-clause-added
-returns-in-Refused-clause-added g c =
+pub returns-in-None-clause-added : goal.returns-in-None-clause-added
+returns-in-None-clause-added g c =
     let x = extended_refused g.P.Point.coords g.P.Point.DIM c.self.inside.axis c.self.inside.points.items c.extend.new.points.items c.args.p
-    c.in_ok-held.field-0 c.in-Refused.why c.in-Refused.is c.in_ok-held.ensures.extended in
+    c.in_ok-held.field-0 c.extend.new.why c.in-None.is c.in_ok-held.ensures.extended in
     added_refused g.P.Point.coords c.self.inside.axis c.self.inside.points.items c.args.self.now c.self.view_is g.P.Point.DIM c.extend.new.points.items c.args.p
-    (refutation_of c.in-Refused.why) x
+    (refutation_of c.extend.new.why) x
 
 pub invariant_of-self : goal.invariant_of-self
 invariant_of-self g c =
@@ -94,7 +94,7 @@ invariant_of-self g c =
 
 pub returns-in_err-held-clause-added : goal.returns-in_err-held-clause-added
 returns-in_err-held-clause-added g c =
-    err_added g.P.Point.DIM c.args.self.now (shown g.P.Point.coords c.self.inside.axis c.extend.new.points.items) (g.P.Point.coords c.args.p)
-    c.from_residual.result c.from_residual.ensures.0
+    err_offered g.P.Point.DIM c.args.self.now (shown g.P.Point.coords c.self.inside.axis c.extend.new.points.items) (g.P.Point.coords c.args.p)
+    c.from_residual.result c.extend.new.why c.from_residual.ensures.0
     (same_shown g.P.Point.coords c.self.inside.axis c.self.inside.points.items c.args.self.now c.self.view_is c.extend.new.points.items
     c.in_err-held.ensures.extended)

@@ -7,7 +7,7 @@ use Rattle.shape_plane.specs.Verdicts.{IsKept, IsTested, IsBroken, IsFlatFor}
 use Rattle.shape_plane.specs.Growth.{Grown, IsGrowing}
 use Rattle.shape_plane.proofs.Adding.{one_more, grows_held, is_flat}
 use Rattle.shape_plane.proofs.Extending.{added_flat}
-use Rattle.shape_plane.proofs.growing.Growing.try_add.Goals as goal
+use Rattle.shape_plane.proofs.growing.Growing.add_or_refute.Goals as goal
 
 pub invariant_of-self-in-Holds : goal.invariant_of-self-in-Holds
 invariant_of-self-in-Holds g c =
