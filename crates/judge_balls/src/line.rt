@@ -155,6 +155,10 @@ impl<P: Point> ReportLine for BallLine<P> {
 
     ghost last = { Terms.Line.End };
 
+    fn end() -> BallLine<P> {
+        BallLine::End
+    }
+
     fn read(bytes: &[u8]) -> Option<BallLine<P>> {
         read_line(bytes)
     }

@@ -75,6 +75,10 @@ impl ReportLine for EdgeLine {
 
     ghost last = { Terms.Line.End };
 
+    fn end() -> EdgeLine {
+        EdgeLine::End
+    }
+
     fn read(bytes: &[u8]) -> Option<EdgeLine> {
         read_line(bytes)
     }

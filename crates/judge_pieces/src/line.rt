@@ -88,6 +88,10 @@ impl ReportLine for PieceLine {
 
     ghost last = { Terms.Line.End };
 
+    fn end() -> PieceLine {
+        PieceLine::End
+    }
+
     fn read(bytes: &[u8]) -> Option<PieceLine> {
         read_line(bytes)
     }

@@ -10,7 +10,7 @@ ghost use Rattle.report_text.specs.Checks.{HasCome, HasChecked, KeepsLines};
 use crate::answer::{CheckFault, Judgement};
 use crate::judge::ReportJudge;
 use crate::line::ReportLine;
-use crate::next::{NextText, next_text};
+use crate::next::{Next, next_line};
 use shape_desk::{Desk, LineReader};
 use std::alloc::Global;
 
@@ -25,7 +25,7 @@ pub fn check_from<L: ReportLine, J: ReportJudge<L>, D: Desk>(
 ) -> Result<Judgement, CheckFault>
     requires begun { (D.state desk.old).begun Report ≡ true }
     requires some { 1 ≤ first }
-    requires few { first + J.room judge.old < 2 ^ 62 }
+    requires few { first + J.room judge.old ≤ 2 ^ 63 }
     ensures checked { (X : J.About) (text : Option (List ℕ))
         → HasCome (report_of L.form L.last (J.good X)) (J.stands X judge.old) text
         (ahead_of reader.old.ahead ((D.state desk.old).left Report)) first
@@ -36,21 +36,20 @@ pub fn check_from<L: ReportLine, J: ReportJudge<L>, D: Desk>(
         (ahead_of reader.old.ahead ((D.state desk.old).left Report)) first
         → KeepsLines (report_of L.form L.last (J.good X)) (J.stands X judge.new) text result }
     ensures reads { OnlyReadsAt Report (D.state desk.old) (D.state desk.new) }
+    ensures same { (start : J) → J.same start judge.old → J.same start judge.new }
 {
     let mut line = first;
+    let mut claim = L::end();
     'lines: loop {
-        match next_text::<L, D>(reader, desk)? {
-            NextText::Line => match &L::read(reader.line()) {
-                Some(claim) => {
-                    if !judge.take(claim)? {
-                        return Ok(Judgement::No { line });
-                    }
-                    line += 1;
+        match next_line::<L, D>(reader, desk, &mut claim)? {
+            Next::Line => {
+                if !judge.take(&claim)? {
+                    return Ok(Judgement::No { line });
                 }
-                None => return Ok(Judgement::No { line }),
-            },
-            NextText::Bad => return Ok(Judgement::No { line }),
-            NextText::End => {
+                line += 1;
+            }
+            Next::Bad => return Ok(Judgement::No { line }),
+            Next::End => {
                 if judge.has_ended() {
                     return Ok(Judgement::Yes);
                 }
@@ -80,6 +79,7 @@ pub fn check_by<L: ReportLine, J: ReportJudge<L>, D: Desk>(
         → KeepsLines (report_of L.form L.last (J.good X)) (J.stands X judge.new)
         ((D.state desk.old).left Report) result }
     ensures reads { OnlyReadsAt Report (D.state desk.old) (D.state desk.new) }
+    ensures same { (start : J) → J.same start judge.old → J.same start judge.new }
 {
     let mut reader = LineReader::new(alloc)?;
     check_from(judge, &mut reader, desk, 1)

@@ -27,7 +27,7 @@ pub use front_why::short_why;
 pub use judge::ReportJudge;
 pub use kinds::kind;
 pub use line::ReportLine;
-pub use next::{Next, NextText, ReadFault, next_claim, next_text};
+pub use next::{Next, ReadFault, next_line};
 pub use page::Page;
 pub use put_weights::put_why;
 pub use report::{Report, WriteFault, write_report};

@@ -1,8 +1,11 @@
 -- The heading of a report, and what is known of a report behind it.
 -- Laws over shelves, texts and lines; the program stands in none.
-use Rattle.std.proofs.Common.{◌≡◌, ◌≤◌, ℕ, refl, sym, ap, ◌∙◌, subst, arith, List, [], ◌∷◌, ◌++◌, length, map, Option, None, Some, Ok, Err}
-use Rattle.std.specs.Prelude.{⊤, pos, slice_get, MatchOption}
+use Rattle.std.proofs.Common.{◌≡◌, ◌≤◌, ℕ, refl, sym, ap, ◌∙◌, subst, arith, List, [], ◌∷◌, ◌++◌, length, map, Bool, Option, None, Some, Result, Ok, Err}
+use Rattle.std.specs.Prelude.{⊤, pos, slice_get, ◌↔◌, IsTrue, IfOk, MatchOption}
+use Rattle.std.specs.Bool.{OnTrue}
+use Rattle.std.proofs.lemmas.Bool.{OnTrue_at, OnTrue_from}
 use Rattle.std.proofs.lemmas.List.{length-append}
+use Rattle.shape_desk.specs.Desk.{DeskState}
 use Rattle.shape_desk.specs.Line.{IfTold, TakenAhead, ahead_of}
 use Rattle.shape_terms.specs.Points.{Point}
 use Rattle.shape_terms.specs.Pictures.{Picture}
@@ -10,6 +13,7 @@ use Rattle.shape_terms.specs.Thinning.{Rule}
 use Rattle.shape_terms.specs.Shelves.{Named, AreNames, names_of, rules_of}
 use Rattle.report_terms.specs.Subjects.{Subject, subject_of, IsOnShelf}
 use Rattle.report_terms.specs.Lines.{Line, Heading, spelled}
+use Rattle.report_terms.specs.Sections as Sections
 use Rattle.report_terms.specs.Sections.{Section, rank, lines_of, number_of, GoodAfter, NamesRule, analysis}
 use Rattle.report_terms.specs.Holds.{FirstBad}
 use Rattle.report_terms.specs.Progress.{StartsWithLine}
@@ -17,8 +21,10 @@ use Rattle.report_terms.proofs.SectionLaws.{come_none, come_more, come_past, non
 use Rattle.report_terms.proofs.NamedRules.{one_named}
 use Rattle.report_terms.proofs.HeadingFirst.{past_heading}
 use Rattle.report_terms.proofs.Spelled.{are_spelled}
+use Rattle.text_terms.specs.Reports.{report_of}
 use Rattle.text_terms.specs.Going.{GoingOn}
 use Rattle.text_terms.proofs.Checking.{begins_none, begins_next, first_bad, one_line}
+use Rattle.report_text.specs.Checks as Reports
 use Rattle.report_text.specs.Checks.{Answer, HasCome}
 use Rattle.report_text.specs.declared.answer.CheckFault.TheVariants.{ReadFault, NoMemory}
 use Rattle.report_text.specs.declared.answer.Judgement.TheVariants.{Yes, No}
@@ -26,10 +32,10 @@ use Rattle.report_text.proofs.Told.{if_told, told_start, told_few, none_ahead}
 use Rattle.shape_terms.proofs.Members.{Contains-map}
 use Rattle.shape_report.specs.Next.{TakesClaim}
 use Rattle.shape_check.specs.Rows.{IsRuledBy, MayCome}
-use Rattle.shape_check.specs.Going.{BehindHeading}
+use Rattle.shape_check.specs.Going.{Ruled, BehindHeading}
 use Rattle.shape_rules.specs.Ruled.{rules_on}
 use Rattle.shape_rules.proofs.Ruled.{names_on, rule_there}
-use Rattle.shape_check.specs.Checks.{Checks, TakesFew}
+use Rattle.shape_check.specs.Checks.{Checks, TakesFew, HasChecked}
 use Rattle.shape_check.specs.declared.heading.Given.{Given}
 use Rattle.shape_check.specs.Heading.{IsHeading, IsNoHeading, TakesHeading, LacksHeading, HeadingAnswer}
 
@@ -112,6 +118,47 @@ module _ (X : Subject) (n : ℕ) (rule : Rule) (s : Section) (one : rank s ≡ 1
 
   pub still_ruled : GoodAfter X lines l → IsRuledBy X (lines_of Section.Heading (lines ++ l ∷ [])) n rule
   still_ruled good = subst (λ ls. IsRuledBy X ls n rule) (sym (lines_skip Section.Heading lines l (past_heading X lines l _ ruled.names.first_is good))) ruled
+
+-- a row and its rule stand for one more line, where it is good
+more_by : {E : Type 0} (X : Subject) (rule : Rule) (s : Section) → rank s ≡ 1 → (lines : List Line) (l : Line) (F G : ℕ → List Line → Type 0)
+    (h : Ruled X rule F lines) (answer : Result Bool E) → IfOk answer (λ b. IsTrue b ↔ GoodAfter X lines l)
+    → IfOk answer (λ b. OnTrue b (G h.number (lines ++ l ∷ []))) → IfOk answer (λ b. OnTrue b (Ruled X rule G (lines ++ l ∷ [])))
+more_by X rule s one lines l F G h (Ok b) a f = OnTrue_from b (Ruled X rule G (lines ++ l ∷ [])) (λ e. record {
+  number = h.number;
+  ruled = still_ruled X h.number rule s one lines l h.ruled (a.0 e);
+  follows = OnTrue_at e f;
+})
+more_by X rule s one lines l F G h (Err e) a f = tt
+
+-- and where the rule means the same now
+pub ruled_more : {E : Type 0} (X : Subject) (rule now : Rule) → now ≡ rule → (s : Section) → rank s ≡ 1 → (lines : List Line) (l : Line)
+    (F : ℕ → List Line → Type 0) (G : Rule → ℕ → List Line → Type 0) (h : Ruled X rule F lines) (answer : Result Bool E)
+    → IfOk answer (λ b. IsTrue b ↔ GoodAfter X lines l) → IfOk answer (λ b. OnTrue b (G rule h.number (lines ++ l ∷ [])))
+    → IfOk answer (λ b. OnTrue b (Ruled X now (G now) (lines ++ l ∷ [])))
+ruled_more X rule now same s one lines l F G h answer a f = subst (λ r. IfOk answer (λ b. OnTrue b (Ruled X r (G r) (lines ++ l ∷ [])))) (sym same)
+    (more_by X rule s one lines l F (G rule) h answer a f)
+
+-- ---- where a row that waits goes on
+
+module _ (X : Subject) (d : ℕ) (axes : length X.picture.sides ≡ d) (text : Option (List ℕ)) where
+  -- it stands for the lines, by the reports of the pictures with d axes
+  pub row_goes_on : (n : ℕ) (rule : Rule) (s : Section) (F : ℕ → List Line → Type 0) (left : Option (List ℕ)) (k : ℕ)
+      → ((lines : List Line) → Sections.HasCome X s lines → lines_of s lines ≡ [] → F n lines)
+      → HasCome (analysis X) (BehindHeading X n rule s) text left k
+      → HasCome (report_of (spelled d) Line.End (GoodAfter X)) (Ruled X rule F) text left k
+  row_goes_on n rule s F left k enters h = subst (λ e. HasCome (report_of (spelled e) Line.End (GoodAfter X)) (Ruled X rule F) text left k) axes
+      (if_told text (λ t g. record {
+        lines = g.lines;
+        bytes = g.bytes;
+        told = g.told;
+        front = g.front;
+        follows = record { number = n; ruled = g.follows.ruled; follows = enters g.lines g.follows.come g.follows.none };
+        number = g.number;
+      }) h)
+
+  pub checked_all : (old new : DeskState) (r : Answer) → Reports.HasChecked (report_of (spelled d) Line.End (GoodAfter X)) text old new r
+      → HasChecked X text old new r
+  checked_all old new r = subst (λ e. Reports.HasChecked (report_of (spelled e) Line.End (GoodAfter X)) text old new r) (sym axes)
 
 -- ---- bytes taken ahead, faults before
 

@@ -3,4 +3,3 @@ pub mod RowLaws
 pub mod OneLine
 pub mod FirstLine
 pub mod ThinningJudged
-pub mod Passed

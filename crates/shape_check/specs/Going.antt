@@ -7,10 +7,11 @@ use Rattle.report_terms.specs.Lines.{Line}
 use Rattle.report_terms.specs.Sections.{Section, lines_of, HasCome}
 use Rattle.shape_check.specs.Rows.{IsRuledBy}
 
--- the heading has the number and names the rule, and a row of judges stands for the lines
-pub record Ruled (X : Subject) (number : ℕ) (rule : Rule) (F : List Line → Type 0) (lines : List Line) : Type 0 where
+-- the heading names the rule, and a row of judges stands for the lines by the number that the heading has
+pub record Ruled (X : Subject) (rule : Rule) (F : ℕ → List Line → Type 0) (lines : List Line) : Type 0 where
+  pub number : ℕ
   pub ruled : IsRuledBy X (lines_of Section.Heading lines) number rule
-  pub follows : F lines
+  pub follows : F number lines
 
 -- the heading has the number and names the rule, and the section s comes next
 pub record BehindHeading (X : Subject) (number : ℕ) (rule : Rule) (s : Section) (lines : List Line) : Type 0 where

@@ -5,4 +5,3 @@ pub mod Going
 pub mod Heading
 pub mod Followed
 pub mod Checks
-pub mod Coming

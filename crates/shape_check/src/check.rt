@@ -1,5 +1,5 @@
-//! Checking a report: its heading, and then each of its lines in turn, up to the first bad one.
-//! Which line is good next is known to the row of judges; this file knows of texts alone.
+//! Checking a report: its heading, and then the lines behind it, by a row of judges and the rule that the heading names.
+//! How a text is gone through line by line is known to `report_text`.
 ghost use Rattle.std.specs.Prelude.{◌≡◌, ◌<◌, ◌-◌, ◌^◌, ℕ, List, Option, true, length};
 ghost use Rattle.shape_desk.specs.Desk.{OnlyReadsAt};
 ghost use Rattle.shape_desk.specs.Line.{ahead_of};
@@ -11,11 +11,11 @@ ghost use Rattle.shape_rules.specs.Ruled.{rules_on};
 ghost use Rattle.shape_check.specs.Checks.{HasChecked};
 ghost use Rattle.shape_check.specs.Going.{BehindHeading};
 
-use crate::coming::{Coming, next_line};
 use crate::heading::find_heading;
-use crate::judges::{Judges, Row};
+use crate::judged::Judged;
+use crate::judges::Row;
 use crate::whole::{Flat, Solid};
-use report_text::{CheckFault, Judgement};
+use report_text::{CheckFault, Judgement, check_from};
 use shape_desk::{Desk, LineReader};
 use shape_grid::Grid;
 use shape_report::Line;
@@ -24,44 +24,6 @@ use shape_space::{P2, P3, Point};
 use std::alloc::Global;
 
 // Goes through the lines behind the heading, which named the rule.
-fn check_lines<P: Point, R: Row<P>, D: Desk>(
-    mut row: R,
-    rule: &mut dyn EndRule,
-    reader: &mut LineReader,
-    desk: &mut D,
-) -> Result<Judgement, CheckFault>
-    requires begun { (D.state desk.old).begun Report ≡ true }
-    requires few { R.room row < 2 ^ 63 - 1 }
-    ensures checked { (X : Subject) (n : ℕ) (text : Option (List ℕ))
-        → length X.picture.sides ≡ P.DIM → R.waits X.picture n row
-        → HasCome (analysis X) (BehindHeading X n (means rule.old) R.section) text
-        (ahead_of reader.old.ahead ((D.state desk.old).left Report)) 2
-        → HasChecked X text (D.state desk.old) (D.state desk.new) result }
-    ensures reads { OnlyReadsAt Report (D.state desk.old) (D.state desk.new) }
-    ensures same_rule { means rule.new ≡ means rule.old }
-{
-    let mut line: u64 = 2;
-    let mut claim = Line::End;
-    'lines: loop {
-        match next_line::<P, D>(reader, desk, &mut claim)? {
-            Coming::Claim => {
-                if !row.take(&claim, rule)? {
-                    return Ok(Judgement::No { line });
-                }
-                line += 1;
-            }
-            Coming::Bad => return Ok(Judgement::No { line }),
-            Coming::End => {
-                if row.has_ended() {
-                    return Ok(Judgement::Yes);
-                }
-                return Ok(Judgement::No { line });
-            }
-        }
-    }
-}
-
-// The same by a boxed rule.
 fn check_behind<P: Point, R: Row<P>, D: Desk>(
     row: R,
     rule: &mut Box<dyn EndRule>,
@@ -78,7 +40,14 @@ fn check_behind<P: Point, R: Row<P>, D: Desk>(
     ensures reads { OnlyReadsAt Report (D.state desk.old) (D.state desk.new) }
     ensures same_rule { means rule.new ≡ means rule.old }
 {
-    check_lines(row, &mut **rule, reader, desk)
+    let mut judge = Judged { row, rule };
+    let answer = check_from::<Line<P>, Judged<R>, D>(&mut judge, reader, desk, 2);
+    // The judge is taken apart, so that the rule is known to be the one that it was lent.
+    let Judged {
+        row: _row,
+        rule: _rule,
+    } = judge;
+    answer
 }
 
 // Checks a report of any dimension.

@@ -8,9 +8,9 @@ ghost use Rattle.shape_terms.specs.Shelves.{names_of};
 ghost use Rattle.shape_report.specs.LineOf.{line_of};
 ghost use Rattle.shape_check.specs.Heading.{IsHeading, IsNoHeading, HeadingAnswer};
 
-use report_text::CheckFault;
+use report_text::{CheckFault, Next, next_line};
 use shape_desk::{Desk, LineReader};
-use shape_report::{Line, Next, next_claim};
+use shape_report::Line;
 use shape_rules::Shelf;
 use shape_space::{Point, Sides};
 
@@ -66,8 +66,9 @@ pub(crate) fn find_heading<P: Point, D: Desk>(
         ((D.state desk.new).left Report) }
     ensures reads { OnlyReadsAt Report (D.state desk.old) (D.state desk.new) }
 {
-    match next_claim(reader, desk)? {
-        Next::Claim(line) => Ok(given_by(sides, shelf, &line)),
+    let mut line = Line::End;
+    match next_line(reader, desk, &mut line)? {
+        Next::Line => Ok(given_by(sides, shelf, &line)),
         Next::Bad | Next::End => Ok(None),
     }
 }

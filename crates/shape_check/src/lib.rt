@@ -3,11 +3,11 @@
 #![tactic(auto)]
 
 mod check;
-mod coming;
 mod counts;
 mod end;
 mod events;
 mod heading;
+mod judged;
 mod judges;
 pub mod law;
 mod outline;

@@ -14,4 +14,4 @@ pub use front::read_front;
 pub use law::one_spelling;
 pub use line::{Line, SeenLine};
 pub use read::read_claim;
-pub use report_text::{Next, ReadFault, Report, WriteFault, next_claim, write_report};
+pub use report_text::{ReadFault, Report, WriteFault, write_report};

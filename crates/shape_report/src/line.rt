@@ -3,6 +3,7 @@
 ghost use Rattle.std.specs.Prelude.{◌≡◌};
 ghost use Rattle.report_terms.specs.Sections.{rank, section_of};
 
+use crate::front::read_front;
 use crate::read::{Frequent, at, del, near, on, read_claim, told_by};
 use crate::spell::spell;
 use report_text::{ReportLine, Text, Words};
@@ -173,6 +174,10 @@ impl<P: Point> ReportLine for Line<P> {
 
     ghost last = { Terms.Line.End };
 
+    fn end() -> Line<P> {
+        Line::End
+    }
+
     // A line of a kind of which reports have most lines is read here, where its words stay at hand; any other is read by a call.
     fn read(bytes: &[u8]) -> Option<Line<P>> {
         let mut words = Words::new(bytes);
@@ -184,6 +189,11 @@ impl<P: Point> ReportLine for Line<P> {
             Frequent::Del => del(&mut words),
             Frequent::Other => read_claim(bytes),
         }
+    }
+
+    #[inline(always)]
+    fn read_front(&mut self, bytes: &[u8]) -> Option<usize> {
+        read_front(bytes, self)
     }
 
     #[inline(always)]

@@ -15,8 +15,9 @@ invariant-lines g l = record {
       → HasCome (report_of g.L.ReportLine.form g.L.ReportLine.last (g.J.ReportJudge.good X)) (g.J.ReportJudge.stands X l.judge) text
       (ahead_of l.reader.ahead ((g.D.Desk.state l.desk).left Report)) l.line;
   some : 1 ≤ l.line;
-  few : l.line + g.J.ReportJudge.room l.judge ≤ 2 ^ 62;
+  few : l.line + g.J.ReportJudge.room l.judge ≤ 2 ^ 63;
   reads : OnlyReadsAt Report (g.D.Desk.state l.fn.desk) (g.D.Desk.state l.desk);
+  same : (start : g.row.J.Denot) → g.J.ReportJudge.same start l.fn.judge → g.J.ReportJudge.same start l.judge;
 }
 
 abbrev pub decreases-lines : goal.decreases-lines
