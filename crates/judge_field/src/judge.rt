@@ -2,6 +2,7 @@
 //! What a line says of its point is tested in `least`.
 ghost use Rattle.std.specs.Prelude.{◌≡◌, ◌<◌, ◌^◌, ◌↔◌, [], ◌∷◌, ◌++◌, List, IsTrue, IfOk};
 ghost use Rattle.std.specs.Bool.{OnTrue};
+ghost use Rattle.shape_terms.specs.Points.{sides_of, box_count, raster_point};
 ghost use Rattle.report_terms.specs.Lines as Terms;
 ghost use Rattle.report_terms.specs.Sections.{NearClaim, NearsComplete};
 ghost use Rattle.shape_report.specs.LineOf.{line_of};
@@ -11,7 +12,7 @@ use crate::least::is_least;
 use crate::scans::Scans;
 use shape_grid::Grid;
 use shape_report::Line;
-use shape_space::{NoMemory, Point};
+use shape_space::{NoMemory, Point, Sides};
 use std::alloc::Global;
 use std::marker::Model;
 
@@ -37,6 +38,16 @@ impl<P: Point> Model for FieldJudge<P> {
     ghost view = { λ j. record { picture = j.scans; taken = j.taken } };
 
     ghost invariant = { λ j. IsInStep j.scans j.objects j.next j.taken };
+}
+
+// Whether a point is the one of the box that has a raster number. No division is made for it.
+#[inline(always)]
+fn has_number<P: Point>(sides: &Sides<P>, p: P, i: u32) -> bool
+    requires { i < box_count (sides_of (P.coords sides.now.lengths)) }
+    ensures { IsTrue result
+        ↔ (P.coords p ≡ raster_point (sides_of (P.coords sides.now.lengths)) i) }
+{
+    sides.inside(p) && sides.raster(p) == i
 }
 
 impl<P: Point> FieldJudge<P> {
@@ -76,11 +87,10 @@ impl<P: Point> FieldJudge<P> {
         let Some(i) = grid.first_from(self.next) else {
             return false;
         };
-        let point = grid.sides().unraster(i);
-        if p != point {
+        if !has_number(&grid.sides(), p, i) {
             return false;
         }
-        if !is_least(&self.scans, point, q, s) {
+        if !is_least(&self.scans, p, q, s) {
             return false;
         }
         self.next = i + 1;

@@ -1,7 +1,9 @@
 //! The squared distances of the points of a picture to the background, kept to compare with.
 //! How they are found belongs to `shape_dist`.
 ghost use Rattle.std.specs.Prelude.{◌≡◌, IsTrue, IfOk};
+ghost use Rattle.shape_terms.specs.Points.{Point as Place};
 ghost use Rattle.shape_terms.specs.Pictures.{at};
+ghost use Rattle.shape_terms.specs.Places.{framed_number};
 ghost use Rattle.judge_field.specs.FieldState.{IsLeastSquare};
 
 use shape_cells::Cells;
@@ -54,6 +56,16 @@ impl<P: Point> Scans<P> {
         &self.grid
     }
 
+    /// The squared distance of the object point that has a number in the framed box.
+    #[inline(always)]
+    pub fn least_at(&self, place: u32) -> u32
+        requires { (p : Place) × IsTrue (at self.now p) × (place ≡ framed_number self.now.sides p) }
+        ensures { (p : Place) → IsTrue (at self.now p) → place ≡ framed_number self.now.sides p
+            → IsLeastSquare self.now p result }
+    {
+        self.squares.get(place)
+    }
+
     /// The squared distance of an object point and a nearest background point of the whole space.
     #[inline(always)]
     pub fn least(&self, p: P) -> u32
@@ -61,6 +73,6 @@ impl<P: Point> Scans<P> {
         ensures { IsLeastSquare self.now (P.coords p) result }
     {
         let sides = self.grid.sides();
-        self.squares.get(sides.framed_number(p))
+        self.least_at(sides.framed_number(p))
     }
 }
