@@ -17,6 +17,7 @@ mod solid;
 mod store;
 
 pub use answers::{Labels, Parts};
+pub use framed::end_in_row;
 pub use near::NearNumbers;
 pub use number::{is_inner, near_number};
 pub use pairing::Pairing;

@@ -4,6 +4,7 @@
 
 mod check;
 mod counts;
+mod distances;
 mod end;
 mod events;
 mod heading;
@@ -18,6 +19,6 @@ mod uncounted;
 mod whole;
 
 pub use check::{check_flat, check_solid};
+pub use distances::distances_of;
 pub use events::ThinJudge;
 pub use report_text::{CheckFault, Judgement};
-pub use thinned::distances_of;

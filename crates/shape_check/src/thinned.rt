@@ -1,24 +1,20 @@
 //! The judge of the lines of the thinning: its events, and the counts of the points left.
 //! How the events are followed stands in `events`.
-ghost use Rattle.std.specs.Prelude.{◌≡◌, ◌↔◌, ◌+◌, ◌<◌, true, false, IsTrue, IfOk, ℕ, List, [], ◌∷◌, ◌++◌};
+ghost use Rattle.std.specs.Prelude.{◌≡◌, ◌↔◌, ◌+◌, ◌<◌, true, false, IsTrue, ℕ, List, [], ◌∷◌, ◌++◌};
 ghost use Rattle.shape_terms.specs.Pictures.{Picture};
 ghost use Rattle.shape_terms.specs.Thinning.{Rule, Event};
 ghost use Rattle.report_terms.specs.Lines as Terms;
 ghost use Rattle.report_terms.specs.Sections.{Section};
 ghost use Rattle.report_terms.specs.ThinningLines.{IsKeptLine};
-ghost use Rattle.shape_terms.specs.Distances.{AreDistances};
 ghost use Rattle.shape_check.specs.Followed.{Thins, HasFollowed};
 
 use crate::counts::PictureCounts;
 use crate::events::ThinJudge;
 use crate::judges::SectionJudge;
-use judge_field::Scans;
-use shape_cells::Cells;
 use shape_report::Line;
 use shape_rules::EndRule;
-use shape_space::{NoMemory, Point};
+use shape_space::NoMemory;
 use shape_topo::SimpleMask;
-use std::alloc::Global;
 
 /// The judge of the `del`, `tip` and `kept` lines.
 #[derive(Drop)]
@@ -32,24 +28,6 @@ pub struct ThinnedJudge<P: SimpleMask> {
     pub background: u32,
     // Whether the `kept` line was taken.
     pub kept: bool,
-}
-
-/// The squared distances of the object points by raster number, from the least ones that were scanned.
-///
-/// They are what a judge of thinnings is made of. A point of the background has none, and no cell of its own where there are few object points.
-pub fn distances_of<P: Point>(alloc: Global, scans: &Scans<P>) -> Result<Cells<u32>, NoMemory>
-    ensures { IfOk result (λ d. AreDistances scans.now d.values) }
-{
-    let grid = scans.grid();
-    grid.is_picture();
-    let sides = grid.sides();
-    let mut distances = Cells::new(alloc, grid.values().copy(alloc)?)?;
-    let mut next = 0;
-    while let Some(i) = grid.first_from(next) {
-        distances.set(i, scans.least(sides.unraster(i)));
-        next = i + 1;
-    }
-    Ok(distances)
 }
 
 impl<P: SimpleMask> ThinnedJudge<P> {

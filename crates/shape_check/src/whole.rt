@@ -8,12 +8,13 @@ ghost use Rattle.shape_check.specs.EventStanding as Thin;
 ghost use Rattle.shape_check.specs.Followed.{Thins};
 
 use crate::counts::{CountsJudge, PictureCounts};
+use crate::distances::distances_of;
 use crate::end::EndJudge;
 use crate::events::ThinJudge;
 use crate::judges::Row;
 use crate::outline::{NoContours, NoFaces};
 use crate::then::{Then, before};
-use crate::thinned::{ThinnedJudge, distances_of};
+use crate::thinned::ThinnedJudge;
 use judge_field::FieldJudge;
 use judge_outline::{CoverJudge, PlaneJudge};
 use shape_adj::parts;
