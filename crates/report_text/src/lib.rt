@@ -4,6 +4,7 @@
 
 mod answer;
 mod check;
+mod digits;
 pub mod field;
 mod front;
 mod front_why;
