@@ -1,11 +1,12 @@
 //! Reading a short line of one of the kinds of which reports have most lines, where it stands among bytes that follow.
 //! What is not read here `read` reads, so a further kind is a matter of speed alone.
-ghost use Rattle.std.specs.Prelude.{◌≡◌, ◌≤◌, ◌<◌, ◌+◌, IsTrue, length, take, get_or, IfSome};
+ghost use Rattle.std.specs.Prelude.{◌≡◌, ◌≤◌, ◌<◌, ◌+◌, ◌*◌, IsTrue, length, take, get_or, IfSome};
 ghost use Rattle.text_terms.specs.Fields.{point};
 ghost use Rattle.report_terms.specs.Kinds.{Kind, first_word};
 ghost use Rattle.report_text.specs.Front.{StandsAt};
 ghost use Rattle.shape_report.specs.LineOf.{line_of};
 ghost use Rattle.shape_report.specs.Front.{IsFront};
+ghost use Rattle.shape_report.specs.declared.line.Line.TheVariants.{Near, At, On, Del};
 
 use crate::line::Line;
 use report_text::{Field, short_count, short_flat_axis, short_point, short_signed, short_why};
@@ -14,6 +15,58 @@ use shape_space::Point;
 
 /// So many bytes are looked at, with the LF.
 const WINDOW: usize = 64;
+
+// Puts a `near` line into a place. Mostly such a line stands there already, and then its fields alone are written.
+#[inline(always)]
+fn put_near<P: Point>(line: &mut Line<P>, p: P, q: P, s: u64)
+    ensures { line.new ≡ Near p q s }
+{
+    match line {
+        Line::Near {
+            p: to_p,
+            q: to_q,
+            s: to_s,
+        } => {
+            *to_p = p;
+            *to_q = q;
+            *to_s = s;
+        }
+        _ => *line = Line::Near { p, q, s },
+    }
+}
+
+// Puts a `del` line into a place, as `put_near` puts its own.
+#[inline(always)]
+fn put_del<P: Point>(line: &mut Line<P>, p: P)
+    ensures { line.new ≡ Del p }
+{
+    match line {
+        Line::Del { p: to_p } => *to_p = p,
+        _ => *line = Line::Del { p },
+    }
+}
+
+// Puts an `at` line into a place, as `put_near` puts its own.
+#[inline(always)]
+fn put_at<P: Point>(line: &mut Line<P>, p: P)
+    ensures { line.new ≡ At p }
+{
+    match line {
+        Line::At { p: to_p } => *to_p = p,
+        _ => *line = Line::At { p },
+    }
+}
+
+// Puts an `on` line into a place, as `put_near` puts its own.
+#[inline(always)]
+fn put_on<P: Point>(line: &mut Line<P>, p: P)
+    ensures { line.new ≡ On p }
+{
+    match line {
+        Line::On { p: to_p } => *to_p = p,
+        _ => *line = Line::On { p },
+    }
+}
 
 // Reads a `near` line.
 #[inline(always)]
@@ -28,11 +81,7 @@ fn near<P: Point>(bytes: &[u8], line: &mut Line<P>) -> Option<usize>
     if bytes[s.end] != b'\n' {
         return None;
     }
-    *line = Line::Near {
-        p: p.value,
-        q: q.value,
-        s: u64::from(s.value),
-    };
+    put_near(line, p.value, q.value, u64::from(s.value));
     Some(s.end)
 }
 
@@ -60,7 +109,7 @@ fn at<P: Point>(bytes: &[u8], line: &mut Line<P>) -> Option<usize>
         return None;
     }
     let p = last_point(bytes, 2)?;
-    *line = Line::At { p: p.value };
+    put_at(line, p.value);
     Some(p.end)
 }
 
@@ -75,7 +124,7 @@ fn on<P: Point>(bytes: &[u8], line: &mut Line<P>) -> Option<usize>
         return None;
     }
     let p = last_point(bytes, 2)?;
-    *line = Line::On { p: p.value };
+    put_on(line, p.value);
     Some(p.end)
 }
 
@@ -87,7 +136,7 @@ fn del<P: Point>(bytes: &[u8], line: &mut Line<P>) -> Option<usize>
     ensures { IfSome result (λ n. IsFront P.DIM bytes.now n (line_of P.coords line.new)) }
 {
     let p = last_point(bytes, 3)?;
-    *line = Line::Del { p: p.value };
+    put_del(line, p.value);
     Some(p.end)
 }
 
@@ -230,6 +279,51 @@ fn off<P: Point>(bytes: &[u8], line: &mut Line<P>) -> Option<usize>
     Some(why.end)
 }
 
+// Four bytes as one number, of which the first is the least part.
+#[inline(always)]
+fn as_one(first: u8, second: u8, third: u8, fourth: u8) -> u32
+    ensures { result ≡ first + second * 256 + third * 65536 + fourth * 16777216 }
+{
+    u32::from(first)
+        + u32::from(second) * 256
+        + u32::from(third) * 65_536
+        + u32::from(fourth) * 16_777_216
+}
+
+// Whether four bytes are the word `near`, by one look at them.
+#[inline(always)]
+fn is_near(first: u8, second: u8, third: u8, fourth: u8) -> bool
+    ensures { IsTrue result → (first ≡ 110) × (second ≡ 101) × (third ≡ 97) × (fourth ≡ 114) }
+{
+    as_one(first, second, third, fourth) == as_one(b'n', b'e', b'a', b'r')
+}
+
+// Whether four bytes are the word `del` and a blank, by one look at them.
+#[inline(always)]
+fn is_del(first: u8, second: u8, third: u8, fourth: u8) -> bool
+    ensures { IsTrue result → (first ≡ 100) × (second ≡ 101) × (third ≡ 108) × (fourth ≡ 32) }
+{
+    as_one(first, second, third, fourth) == as_one(b'd', b'e', b'l', b' ')
+}
+
+// Reads a line of a kind of which few reports have most lines.
+#[inline(always)]
+fn rarer<P: Point>(bytes: &[u8], line: &mut Line<P>) -> Option<usize>
+    requires { 64 ≤ length bytes.now }
+    ensures { IfSome result (λ n. IsFront P.DIM bytes.now n (line_of P.coords line.new)) }
+{
+    match bytes {
+        [b'a', b't', ..] => at(bytes, line),
+        [b'o', b'n', ..] => on(bytes, line),
+        [b'o', b'f', b'f', ..] => off(bytes, line),
+        [b's', b'e', b'g', ..] => seg(bytes, line),
+        [b'l', b'e', b'a', b's', b't', ..] => least(bytes, line),
+        [b't', b'u', b'r', b'n', ..] => turn(bytes, line),
+        [b'c', b'u', b't', ..] => cut(bytes, line),
+        _ => None,
+    }
+}
+
 /// Reads a short line that stands with its LF at the front of bytes, into a place, and answers how many bytes it has.
 ///
 /// A line that it answers is one of the reports of pictures whose points are of type `P`, and stands in the place. It may
@@ -242,16 +336,11 @@ pub fn read_front<P: Point>(bytes: &[u8], line: &mut Line<P>) -> Option<usize>
     if bytes.len() < WINDOW {
         return None;
     }
-    match bytes {
-        [b'n', b'e', b'a', b'r', ..] => near(bytes, line),
-        [b'd', b'e', b'l', ..] => del(bytes, line),
-        [b'a', b't', ..] => at(bytes, line),
-        [b'o', b'n', ..] => on(bytes, line),
-        [b'o', b'f', b'f', ..] => off(bytes, line),
-        [b's', b'e', b'g', ..] => seg(bytes, line),
-        [b'l', b'e', b'a', b's', b't', ..] => least(bytes, line),
-        [b't', b'u', b'r', b'n', ..] => turn(bytes, line),
-        [b'c', b'u', b't', ..] => cut(bytes, line),
-        _ => None,
+    if is_near(bytes[0], bytes[1], bytes[2], bytes[3]) {
+        return near(bytes, line);
     }
+    if is_del(bytes[0], bytes[1], bytes[2], bytes[3]) {
+        return del(bytes, line);
+    }
+    rarer(bytes, line)
 }

@@ -7,5 +7,6 @@ use Rattle.shape_report.proofs.front.del.Goals as goal
 pub returns : goal.returns
 returns g c =
     let p = c.in_ok-p in
-    front_of g.P.Point.DIM (Terms.Del (g.P.Point.coords p.p.value)) c.args.bytes.now 3 p.p.end 24 p.ensures.fits c.requires.word p.ensures.stands
-    p.ensures.lf (omega arith)
+    rw c.put_del.ensures
+    (front_of g.P.Point.DIM (Terms.Del (g.P.Point.coords p.p.value)) c.args.bytes.now 3 p.p.end 24 p.ensures.fits c.requires.word p.ensures.stands
+    p.ensures.lf (omega arith))

@@ -18,6 +18,6 @@ returns g c =
     let short : s.s.value < 2 ^ 63 = omega (arith, s.ensures.fits) in
     let behind = stands_both bytes p.p.end q.q.end s.s.end 24 7 ((point d).words w) (count.words s.s.value) q.ensures.stands s.ensures.stands in
     let all = stands_both bytes 4 p.p.end s.s.end 24 31 ((point d).words v) ((point d).words w ++ count.words s.s.value) p.ensures.stands behind in
-    rw c.from.ensures
+    rw (c.put_near.ensures, c.from.ensures)
     (front_of d (Terms.Near v w s.s.value) bytes 4 s.s.end 55 (p.ensures.fits, (q.ensures.fits, short)) c.requires.word all c.if-bytes-s-ne10.false
     (omega arith))

@@ -10,4 +10,5 @@ returns g c =
     let l = Terms.On (g.P.Point.coords p.p.value) in
     let axes : g.P.Point.DIM ≡ 3 = sym c.DIM.ensures ∙ c.if-DIM-ne3.false in
     let fields : IsLineOf g.P.Point.DIM l = (axes, rw axes at p.ensures.fits) in
-    front_of g.P.Point.DIM l c.args.bytes.now 2 p.p.end 24 fields c.requires.word p.ensures.stands p.ensures.lf (omega arith)
+    rw c.put_on.ensures
+    (front_of g.P.Point.DIM l c.args.bytes.now 2 p.p.end 24 fields c.requires.word p.ensures.stands p.ensures.lf (omega arith))
