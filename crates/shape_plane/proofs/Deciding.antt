@@ -1,6 +1,7 @@
 -- Rows of pairs of a list of points, while pairs and points are added.
 -- How pairs are found belongs elsewhere.
 use Rattle.std.proofs.Common.{take, pos, ◌≡◌, ℕ, zero, suc, ◌+◌, ◌⊎◌, inl, inr, List, [], ◌∷◌, ◌++◌, length, map, refl, ap, sym, subst, ◌∙◌, arith}
+use Rattle.std.specs.Prelude.{Option, Some, None}
 use Rattle.std.proofs.lemmas.List.{get_or_append_left, length-append, map-append, append_assoc, length-map}
 use Rattle.std.proofs.lemmas.List.Elements.{All-push}
 use Rattle.shape_terms.specs.Points.{Point}
@@ -9,12 +10,10 @@ use Rattle.shape_terms.specs.Refutations.{point_at}
 use Rattle.shape_refute.specs.declared.refutation.Refutation.{Refutation}
 use Rattle.shape_refute.specs.Weights.{refutation_of}
 use Rattle.shape_plane.specs.declared.answer.Slopes.{Slopes as Coefficients}
-use Rattle.shape_plane.specs.declared.answer.Solved.{Solved}
-use Rattle.shape_plane.specs.declared.answer.Solved.TheVariants.{Slopes, Clash}
 use Rattle.shape_plane.specs.declared.pair.Pair.{Pair}
 use Rattle.shape_plane.specs.declared.row.Row.{Row}
 use Rattle.shape_plane.specs.Pairs.{IsPair, ArePairs, AreSmallCoefficients, pair_row}
-use Rattle.shape_plane.specs.Solved.{IsSolved}
+use Rattle.shape_plane.specs.Solved.{IsSolved, IsFound, solved_by}
 use Rattle.shape_plane.specs.Systems.{bounding_rows}
 use Rattle.shape_plane.specs.Verdicts.{AreRowsOf, HasGrown, IsRefuted}
 
@@ -84,12 +83,17 @@ rows_pushed f t old new p rows e h =
 
 -- ---- what slopes and clashes say
 
-module _ (d t : ℕ) (points : List Point) (pairs : List Pair) (v : Solved) where
-  pub slopes_small : (s : Coefficients) → v ≡ Slopes s → IsSolved d t points pairs v → AreSmallCoefficients d s.a
-  slopes_small s e h = (subst (IsSolved d t points pairs) e h).1
+module _ (d t : ℕ) (points : List Point) (pairs : List Pair) (v : Option Coefficients) (why : Refutation) where
+  pub slopes_small : (s : Coefficients) → v ≡ Some s → IsFound d t points pairs v why → AreSmallCoefficients d s.a
+  slopes_small s e h = (subst (λ (w : Option Coefficients). IsFound d t points pairs w why) e h).1
 
-  pub slopes_proper : (s : Coefficients) → v ≡ Slopes s → IsSolved d t points pairs v → IsProper t (record { a = take d s.a; mu = pos 0 })
-  slopes_proper s e h = (subst (IsSolved d t points pairs) e h).0.proper
+  pub slopes_proper : (s : Coefficients) → v ≡ Some s → IsFound d t points pairs v why → IsProper t (record { a = take d s.a; mu = pos 0 })
+  slopes_proper s e h = (subst (λ (w : Option Coefficients). IsFound d t points pairs w why) e h).0.proper
 
-  pub clash_refutes : (why : Refutation) → v ≡ Clash why → IsSolved d t points pairs v → IsRefuted d t points (refutation_of why)
-  clash_refutes why e h = let w = (subst (IsSolved d t points pairs) e h).weights in record { refutes = w.refutes; small = w.small }
+  pub clash_refutes : v ≡ None → IsFound d t points pairs v why → IsRefuted d t points (refutation_of why)
+  clash_refutes e h = let w = (subst (λ (w : Option Coefficients). IsFound d t points pairs w why) e h).weights in record { refutes = w.refutes; small = w.small }
+
+pub solved_told : (d t : ℕ) (points : List Point) (pairs : List Pair) (v : Option Coefficients) (why : Refutation) → IsFound d t points pairs v why
+    → IsSolved d t points pairs (solved_by v why)
+solved_told d t points pairs (Some s) why h = h
+solved_told d t points pairs None why h = h

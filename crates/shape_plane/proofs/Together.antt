@@ -1,16 +1,17 @@
 -- Two rows together: what their combination says, and what it leaves of the second slope.
 -- Plain variables alone stand here.
-use Rattle.std.proofs.Common.{◌≡◌, ℕ, ◌+◌, ◌*◌, ◌<◌, ◌≤◌, inl, inr, List, length, ap, sym, subst, ◌∙◌, arith}
-use Rattle.std.specs.Prelude.{ℤ, pos, ◌+ℤ◌, ◌*ℤ◌, ◌≤ℤ◌, ◌<ℤ◌, unsigned_abs, neg_ℤ}
-use Rattle.std.proofs.lemmas.Int.{ints}
+use Rattle.std.proofs.Common.{◌≡◌, ℕ, ◌+◌, ◌*◌, ◌<◌, ◌≤◌, inl, inr, List, length, ap, sym, subst, ◌∙◌, arith, Bool}
+use Rattle.std.specs.Prelude.{IsTrue, ◌↔◌, ℤ, pos, ◌+ℤ◌, ◌*ℤ◌, ◌≤ℤ◌, ◌<ℤ◌, unsigned_abs, neg_ℤ}
+use Rattle.std.proofs.lemmas.Int.{ints, by_lt_z}
 use Rattle.shape_terms.specs.Limits.{most_solid, plane_gap, plane_row}
 use Rattle.shape_plane.specs.declared.row.Row.{Row}
 use Rattle.shape_plane.specs.declared.bound.Bound.{Bound}
 use Rattle.shape_plane.specs.declared.combination.Combination.{Combination}
-use Rattle.shape_plane.specs.Rows.{row_at, IsGap, AreOpposite, IsSteep, Meets}
+use Rattle.shape_plane.specs.Rows.{row_at, IsGap, AreOpposite, IsSmall, IsSteep, Meets}
 use Rattle.shape_plane.specs.Combinations.{IsCombination}
 use Rattle.shape_plane.specs.Ranges.{LeaveRoom}
 use Rattle.shape_terms.proofs.Products.{rings}
+use Rattle.shape_terms.proofs.Order.{mul-le_ℤ, mul-lt_ℤ}
 
 pub not_flat : (y w : ℤ) → AreOpposite y w → y ≡ pos 0 → ⊥
 not_flat y w (inl h) e = omega (arith, ints, e, h.0)
@@ -19,6 +20,40 @@ not_flat y w (inr h) e = omega (arith, ints, e, h.0)
 pub not_flat_back : (y w : ℤ) → AreOpposite y w → w ≡ pos 0 → ⊥
 not_flat_back y w (inl h) e = omega (arith, ints, e, h.1)
 not_flat_back y w (inr h) e = omega (arith, ints, e, h.1)
+
+-- the signs are opposite where the product is below 0
+pub opposite_signs : (y w : ℤ) → (y *ℤ w) <ℤ pos 0 → AreOpposite y w
+opposite_signs y w h = by_lt_z y (pos 0) (λ (l : y <ℤ pos 0). inl (l, above l)) (λ (l : pos 0 ≤ℤ y). let b = below l in inr (rises b, b))
+  where
+    above : y <ℤ pos 0 → pos 0 <ℤ w
+    above l = by_lt_z (pos 0) w (λ (k : pos 0 <ℤ w). k)
+        (λ (k : w ≤ℤ pos 0). absurd (let e = mul-le_ℤ (neg_ℤ y) w (pos 0) (omega (arith, ints, l)) k in omega (arith, ints, rings, e, h)))
+
+    below : pos 0 ≤ℤ y → w <ℤ pos 0
+    below l = by_lt_z w (pos 0) (λ (k : w <ℤ pos 0). k)
+        (λ (k : pos 0 ≤ℤ w). absurd (let e = mul-le_ℤ y (pos 0) w l k in omega (arith, ints, rings, e, h)))
+
+    rises : w <ℤ pos 0 → pos 0 <ℤ y
+    rises l = by_lt_z (pos 0) y (λ (k : pos 0 <ℤ y). k)
+        (λ (k : y ≤ℤ pos 0). absurd (let e = mul-le_ℤ (neg_ℤ w) y (pos 0) (omega (arith, ints, l)) k in omega (arith, ints, rings, e, h)))
+
+pub product_below : (y w : ℤ) → AreOpposite y w → (y *ℤ w) <ℤ pos 0
+product_below y w (inl h) = let e = mul-lt_ℤ w y (pos 0) h.1 h.0 in omega (arith, ints, rings, e)
+product_below y w (inr h) = let e = mul-lt_ℤ y w (pos 0) h.0 h.1 in omega (arith, ints, rings, e)
+
+pub opposite_told : (b : Bool) (y w v : ℤ) → v ≡ y *ℤ w → IsTrue b ↔ (v <ℤ pos 0) → IsTrue b ↔ AreOpposite y w
+opposite_told b y w v e h = (
+  λ t. opposite_signs y w (subst (λ (u : ℤ). u <ℤ pos 0) e (h.0 t)),
+  λ o. h.1 (subst (λ (u : ℤ). u <ℤ pos 0) (sym e) (product_below y w o)),
+)
+
+-- a coefficient of a small row is small
+pub second_small : (r : Row) → IsSmall r → unsigned_abs r.y ≤ plane_gap
+second_small r h = small r.y (λ e. (h.steep e).y_small)
+  where
+    small : (y : ℤ) → ((y ≡ pos 0 → ⊥) → unsigned_abs y ≤ plane_gap) → unsigned_abs y ≤ plane_gap
+    small y f = by_lt_z (pos 0) y (λ (l : pos 0 <ℤ y). f (λ e. omega (arith, ints, l, e)))
+        (λ (l : y ≤ℤ pos 0). by_lt_z y (pos 0) (λ (k : y <ℤ pos 0). f (λ e. omega (arith, ints, k, e))) (λ (k : pos 0 ≤ℤ y). omega (arith, ints, l, k)))
 
 -- the second slope is gone
 pub gone : (y w : ℤ) → AreOpposite y w → pos 0 ≡ pos (unsigned_abs w) *ℤ y +ℤ pos (unsigned_abs y) *ℤ w

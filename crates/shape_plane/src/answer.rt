@@ -6,13 +6,13 @@ ghost use Rattle.shape_plane.specs.Ranges.{HasWhole};
 ghost use Rattle.shape_plane.specs.Systems.{rows_for};
 ghost use Rattle.shape_plane.specs.Pairs.{ArePairs};
 ghost use Rattle.shape_plane.specs.Solutions.{IsSlopesOf};
-ghost use Rattle.shape_plane.specs.Solved.{IsSolved};
+ghost use Rattle.shape_plane.specs.Solved.{IsFound, solved_by as solved};
 
 use crate::eliminate::{Elimination, Solution, eliminate};
 use crate::pair::Pair;
 use crate::range::Narrowed;
 use crate::row::Row;
-use crate::weights::weights_of;
+use crate::weights::put_weights;
 use shape_refute::Refutation;
 use shape_space::Point;
 
@@ -55,19 +55,37 @@ fn slopes_of<P: Point>(axis: usize, s: Solution) -> [i64; 3]
     }
 }
 
-/// The answer of rows of pairs, where the first slopes that they leave are known.
-pub fn answer_of<P: Point>(rows: &[Row], axis: usize, first: Narrowed) -> Solved
+/// The slopes that meet rows of pairs, where the first slopes that they leave are known; none where the weights put into `why` refute all.
+pub fn find_slopes<P: Point>(
+    rows: &[Row],
+    axis: usize,
+    first: Narrowed,
+    why: &mut Refutation,
+) -> Option<Slopes>
     requires axis { axis < P.DIM }
     requires system { IsSystem rows.now }
     requires whole { HasWhole rows.now (length rows.now) first }
     ensures { (points : List P) (pairs : List Pair) → ArePairs (length points) pairs
         → rows.now ≡ rows_for axis (map P.coords points) pairs
-        → IsSolved P.DIM axis (map P.coords points) pairs result }
+        → IsFound P.DIM axis (map P.coords points) pairs result why.new }
 {
     match eliminate(rows, first) {
-        Elimination::Slopes(s) => Solved::Slopes(Slopes {
+        Elimination::Slopes(s) => Some(Slopes {
             a: slopes_of::<P>(axis, s),
         }),
-        Elimination::Clash(k) => Solved::Clash(weights_of(rows, k)),
+        Elimination::Clash(k) => {
+            put_weights(why, rows, k);
+            None
+        }
+    }
+}
+
+/// The answer with its slopes or its weights.
+pub fn solved_by(slopes: Option<Slopes>, why: Refutation) -> Solved
+    ensures { result ≡ solved slopes why }
+{
+    match slopes {
+        Some(s) => Solved::Slopes(s),
+        None => Solved::Clash(why),
     }
 }

@@ -5,14 +5,16 @@ ghost use Rattle.shape_plane.specs.Rows.{row_at, IsGap, IsSystem};
 ghost use Rattle.shape_plane.specs.Pairs.{IsPair, ArePairs, AreInside, pair_row};
 ghost use Rattle.shape_plane.specs.Ranges.{HasWhole};
 ghost use Rattle.shape_plane.specs.Systems.{bounding_rows as bounding, rows_for};
-ghost use Rattle.shape_plane.specs.Solved.{IsSolved};
+ghost use Rattle.shape_plane.specs.Solved.{IsSolved, IsFound};
 ghost use Rattle.shape_plane.specs.Knowing.{IsMark};
 
-use crate::answer::{Solved, answer_of};
+use crate::answer::{Slopes, Solved, find_slopes, solved_by};
 use crate::pair::{Pair, row_of};
 use crate::range::{Narrowed, all_slopes, cleared};
 use crate::row::Row;
 use crate::system::bounding_rows;
+use crate::weights::nothing;
+use shape_refute::Refutation;
 use shape_space::{NoMemory, Point};
 use std::alloc::Global;
 use std::marker::Model;
@@ -92,8 +94,20 @@ impl Known {
             → self.now ≡ rows_for axis (map P.coords points.now) pairs
             → IsSolved P.DIM axis (map P.coords points.now) pairs result }
     {
+        let mut why = nothing();
+        let slopes = self.find(points, axis, &mut why);
+        solved_by(slopes, why)
+    }
+
+    /// The same, as the slopes alone; where there are none, the weights stand in `why`.
+    pub fn find<P: Point>(&self, points: &[P], axis: usize, why: &mut Refutation) -> Option<Slopes>
+        requires axis { axis < P.DIM }
+        ensures { (pairs : List Pair) → ArePairs (length points.now) pairs
+            → self.now ≡ rows_for axis (map P.coords points.now) pairs
+            → IsFound P.DIM axis (map P.coords points.now) pairs result why.new }
+    {
         let _ = points;
-        answer_of::<P>(&self.rows, axis, self.first)
+        find_slopes::<P>(&self.rows, axis, self.first, why)
     }
 
     /// What is known now.

@@ -1,12 +1,14 @@
 //! The greatest lower and the least upper bound of the first slope, among the combinations looked at.
 //! Bounds are compared as fractions, by cross products.
-ghost use Rattle.std.specs.Prelude.{◌≡◌, ◌<◌, ◌↔◌, IsTrue, pos, length};
+ghost use Rattle.std.specs.Prelude.{◌≡◌, ◌<◌, ◌↔◌, IsTrue, ◌<ℤ◌, pos, length, ◌≤◌, unsigned_abs};
+ghost use Rattle.shape_terms.specs.Limits.{plane_gap};
 ghost use Rattle.shape_plane.specs.Rows.{row_at, Meets, IsGap, AreSmall, AreOpposite, IsSystem};
 ghost use Rattle.shape_plane.specs.Combinations.{IsCombination};
 ghost use Rattle.shape_plane.specs.Ranges.{LeaveRoom, IsClear, IsMet, IsRange, HasNarrower, IsWhole, HasWhole};
 
 use crate::bound::is_tighter;
 use crate::combination::{Combination, alone, combined};
+use crate::products::product;
 use crate::row::{Row, read};
 
 /// A lower and an upper bound of the first slope.
@@ -55,15 +57,32 @@ fn narrow(rows: &[Row], old: Range, c: Combination) -> Narrowed
     Narrowed::Room(old)
 }
 
-// Whether two rows bound the second slope from opposite sides.
+// The coefficient of the second slope in a row.
+fn second(rows: &[Row], j: usize) -> i64
+    requires place { j < length rows.now }
+    requires small { AreSmall rows.now }
+    ensures value { result ≡ (row_at rows.now j).y }
+    ensures small { unsigned_abs result ≤ plane_gap }
+{
+    let r = read(rows, j);
+    r.y
+}
+
+// Whether a number is below 0.
+fn is_negative(a: i64) -> bool
+    ensures { IsTrue result ↔ a <ℤ pos 0 }
+{
+    a < 0
+}
+
+// Whether two rows bound the second slope from opposite sides: their coefficients have a product below 0 then alone.
 fn are_opposite(rows: &[Row], i: usize, j: usize) -> bool
     requires first { i < length rows.now }
     requires second { j < length rows.now }
+    requires small { AreSmall rows.now }
     ensures { IsTrue result ↔ AreOpposite (row_at rows.now i).y (row_at rows.now j).y }
 {
-    let a = read(rows, i);
-    let b = read(rows, j);
-    a.y < 0 && b.y > 0 || a.y > 0 && b.y < 0
+    is_negative(product(second(rows, i), second(rows, j)))
 }
 
 // The range without the slopes at which two rows leave no room.

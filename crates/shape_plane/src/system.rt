@@ -23,17 +23,19 @@ fn proper_row(x: i64, y: i64, step: Step) -> Row
     }
 }
 
+// So many rows have room from the first on.
+const USUAL: usize = 16;
+
 /// The rows that keep both slopes between -1 and 1.
 pub fn bounding_rows(alloc: Global, axis: usize) -> Result<Vec<Row>, NoMemory>
     ensures { IfOk result (λ v. v.items ≡ bounding axis) }
 {
     let first = first_axis(axis) as u8;
     let second = second_axis(axis) as u8;
-    let rows = [
-        proper_row(-1, 0, Step::Plus(first)),
-        proper_row(1, 0, Step::Minus(first)),
-        proper_row(0, -1, Step::Plus(second)),
-        proper_row(0, 1, Step::Minus(second)),
-    ];
-    Ok(Vec::from_array(alloc, rows)?)
+    let mut rows = Vec::with_capacity(alloc, USUAL)?;
+    rows.push(proper_row(-1, 0, Step::Plus(first)))?;
+    rows.push(proper_row(1, 0, Step::Minus(first)))?;
+    rows.push(proper_row(0, -1, Step::Plus(second)))?;
+    rows.push(proper_row(0, 1, Step::Minus(second)))?;
+    Ok(rows)
 }

@@ -4,7 +4,6 @@ ghost use Rattle.std.specs.Prelude.{◌≡◌, ◌<◌, ◌≤◌, ◌^◌, ◌�
 ghost use Rattle.shape_plane.specs.Pairs.{AreInside, IsPair};
 ghost use Rattle.shape_plane.specs.Verdicts.{IsVerdict, IsDecided, IsFlatFor, AreRowsOf, HasGrown, is_flat as says_flat, verdict_told as told};
 
-use crate::answer::Solved;
 use crate::held::{Held, Tested, try_slopes};
 use crate::known::Known;
 use crate::pair::Pair;
@@ -43,12 +42,9 @@ pub fn decide_with<P: Point>(
         (map P.coords points.now) known.old known.new }
 {
     for _round in 0..u64::MAX {
-        match known.solve(points, axis) {
-            Solved::Clash(weights) => {
-                *why = weights;
-                return Ok(None);
-            }
-            Solved::Slopes(s) => match try_slopes(points, axis, &s.a) {
+        match known.find(points, axis, why) {
+            None => return Ok(None),
+            Some(s) => match try_slopes(points, axis, &s.a) {
                 Tested::Holds(held) => return Ok(Some(held)),
                 Tested::Breaks(pair) => known.add(points, axis, pair)?,
             },

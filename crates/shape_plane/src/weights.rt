@@ -154,14 +154,13 @@ fn rest_of(k: Excluded) -> u64
     k.rest as u64
 }
 
-/// The weights of an exclusion.
-pub fn weights_of(rows: &[Row], k: Excluded) -> Refutation
+/// Puts the weights of an exclusion in the place of others.
+pub fn put_weights(into: &mut Refutation, rows: &[Row], k: Excluded)
     requires { IsExcluded rows.now k }
-    ensures { refutation_of result ≡ weights rows.now k }
+    ensures { refutation_of into.new ≡ weights rows.now k }
 {
-    let mut weights = nothing();
-    with_multiple(&mut weights, rows, k.first);
-    with_multiple(&mut weights, rows, k.second);
-    with_up(&mut weights, rest_of(k));
-    weights
+    *into = nothing();
+    with_multiple(into, rows, k.first);
+    with_multiple(into, rows, k.second);
+    with_up(into, rest_of(k));
 }

@@ -7,7 +7,7 @@ use Rattle.shape_plane.proofs.Gaps.{long_pairs}
 use Rattle.shape_plane.proofs.Meeting.{slopes_meet, small_slopes, excluded_slopes}
 use Rattle.shape_plane.proofs.Refuting.{are_weights}
 use Rattle.shape_plane.proofs.Certified.{few_axes, low_axis}
-use Rattle.shape_plane.proofs.answer.answer_of.Goals as goal
+use Rattle.shape_plane.proofs.answer.find_slopes.Goals as goal
 
 pub returns-in-Slopes : goal.returns-in-Slopes
 returns-in-Slopes g c = λ points pairs places same.
@@ -28,7 +28,7 @@ returns-in-Clash g c = λ points pairs places same.
     let k : IsExcluded (rows_for c.args.axis (map g.P.Point.coords points) pairs) c.in-Clash.k =
     subst (IsElimination (rows_for c.args.axis (map g.P.Point.coords points) pairs)) c.in-Clash.is e in
     record {
-      weights = subst (AreWeights g.P.Point.DIM c.args.axis (map g.P.Point.coords points) pairs) (sym c.weights_of.ensures)
+      weights = subst (AreWeights g.P.Point.DIM c.args.axis (map g.P.Point.coords points) pairs) (sym c.put_weights.ensures)
           (are_weights g.P.Point.coords g.P.Point.DIM c.args.axis points pairs g.met.P.Point.axes g.met.P.Point.two_or_three c.requires.axis places
           c.args.rows.now same c.in-Clash.k
           (subst (λ (v : List Row). IsExcluded v c.in-Clash.k) (sym same) k));
