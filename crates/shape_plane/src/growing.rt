@@ -16,6 +16,9 @@ use shape_space::{NoMemory, Point};
 use std::alloc::Global;
 use std::marker::Model;
 
+// So many points have room from the first on.
+const USUAL: usize = 32;
+
 /// Whether a point was taken.
 #[derive(Clone, Copy)]
 pub enum Added {
@@ -96,7 +99,7 @@ impl<P: Point> Growing<P> {
         ensures axis { IfOk result (λ g. g.axis ≡ axis) }
         ensures points { IfOk result (λ g. g.points ≡ P.coords p ∷ []) }
     {
-        let mut points = Vec::new(alloc);
+        let mut points = Vec::with_capacity(alloc, USUAL)?;
         points.push(p)?;
         let mut known = Known::new(alloc, axis)?;
         let mut why = nothing();
