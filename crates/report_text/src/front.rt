@@ -6,7 +6,7 @@ ghost use Rattle.text_terms.specs.Forms.{signed, letter};
 ghost use Rattle.text_terms.specs.Fields.{count, point};
 ghost use Rattle.report_text.specs.Front.{StandsAt};
 
-use crate::digits::short_digits;
+use shape_desk::read_short;
 use shape_space::Point;
 
 /// A field that stands at a place of bytes: its value, and the place behind it.
@@ -28,7 +28,7 @@ pub fn short_count(bytes: &[u8], at: usize) -> Option<Field<u32>>
     if bytes[at] != b' ' {
         return None;
     }
-    match short_digits(&bytes[at + 1..]) {
+    match read_short(&bytes[at + 1..]) {
         Some(short) => Some(Field {
             value: short.value,
             end: at + 1 + short.len,
@@ -58,7 +58,7 @@ fn short_negative(bytes: &[u8], at: usize) -> Option<Field<i64>>
     if bytes[at] != b' ' || bytes[at + 1] != b'-' {
         return None;
     }
-    match short_digits(&bytes[at + 2..]) {
+    match read_short(&bytes[at + 2..]) {
         Some(short) => {
             if short.value > 0 {
                 Some(Field {

@@ -4,7 +4,6 @@
 
 mod answer;
 mod check;
-mod digits;
 pub mod field;
 mod front;
 mod front_why;

@@ -15,7 +15,7 @@ use Rattle.std.proofs.lemmas.Bool.{cases_lt}
 use Rattle.std.proofs.lemmas.List.{drop_more, length-take, length-drop, take_min, get_or-take}
 use Rattle.std.specs.List.{prefix_len}
 use borrow.Author.Tests.{ne_eqb}
-use Rattle.shape_desk.specs.Number.{number_front, HasNoLeadingZero, IsSizeOf, IsRunSoFar, SpellsNumber, IsShortNumber}
+use Rattle.shape_desk.specs.Number.{number_front, HasNoLeadingZero, IsSizeOf, IsRunSoFar, SpellsNumber}
 
 -- ---- the run of digits
 
@@ -249,12 +249,3 @@ begins (b ∷ c ∷ cs) d z =
           take_while-cons is_ascii_digit c cs ∙ ap (λ t. cond t (c ∷ take_while is_ascii_digit cs) []) (z e) in
           ap (λ (l : List ℕ). suc (length l)) none,
     )
-
-pub short_number : (bs : List ℕ) (n m : ℕ) → HasNoLeadingZero (take_while is_ascii_digit bs) → n ≡ length (take_while is_ascii_digit bs)
-    → IsSizeOf (digits_value 10 (take_while is_ascii_digit bs)) m → n ≤ 6 → m ≤ 999999 → IsShortNumber bs n m
-short_number bs n m begun len size few fits = record {
-  fits = omega arith;
-  few = few;
-  spelling = ap (λ k. take k bs) len ∙ take-length-take_while is_ascii_digit bs
-      ∙ spells_size (take_while is_ascii_digit bs) m (AllDigits-take_while bs) begun (omega arith) size;
-}

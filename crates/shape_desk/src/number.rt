@@ -13,13 +13,13 @@ const SHORT: usize = 4;
 
 // The longest run of digits at the front of bytes: how many, and their value where it is at most 2 ^ 63, and else any greater number.
 #[derive(Clone, Copy)]
-pub(crate) struct Run {
-    pub(crate) len: usize,
-    pub(crate) value: u64,
+struct Run {
+    len: usize,
+    value: u64,
 }
 
 // The value with one digit more, where that is not too great; and what is too great stays so.
-pub(crate) fn next_value(value: u64, digit: u8) -> u64
+fn next_value(value: u64, digit: u8) -> u64
     requires { is_ascii_digit digit ≡ true }
     ensures next { value ≤ 922337203685477580 → result ≡ value * 10 + (digit - 48) }
     ensures great { 922337203685477580 < value → 2 ^ 63 < result }

@@ -1,11 +1,7 @@
 //! Reading a short number, of at most six digits, at the front of bytes: most numbers of a report are as short.
 //! It answers none where `read_number` may yet find a number; how many digits are short may be changed here.
-ghost use Rattle.std.specs.Prelude.{◌≡◌, ◌≤◌, ◌<◌, IsTrue, length, take_while, IfSome};
-ghost use Rattle.std.specs.Char.{is_ascii_digit};
-ghost use Rattle.std.specs.Str.Parse.{digits_value};
-ghost use Rattle.shape_desk.specs.Number.{HasNoLeadingZero, IsSizeOf, IsShortNumber};
-
-use crate::number::{Run, next_value};
+ghost use Rattle.std.specs.Prelude.{◌≡◌, ◌≤◌, ◌<◌, ◌+◌, ◌*◌, length, get_or, IfSome};
+ghost use Rattle.shape_desk.specs.Number.{IsShortNumber};
 
 /// A number without sign that stands at the front of bytes.
 #[derive(Clone, Copy)]
@@ -19,67 +15,58 @@ pub struct Short {
 /// The number of digits past those of a short number.
 const LONG: usize = 7;
 
-/// The greatest short number.
-const MOST: u64 = 999_999;
-
-// Whether digits begin the bytes, the first of several of which is not 0.
+// What a byte stands for as a digit; it is more than 9 where the byte is none.
 #[inline(always)]
-fn begins_number(bytes: &[u8]) -> bool
-    requires { 2 ≤ length bytes.now }
-    ensures { IsTrue result → HasNoLeadingZero (take_while is_ascii_digit bytes.now) }
+fn digit_value(byte: u8) -> u32
+    ensures { result ≤ 9 → byte ≡ 48 + result }
 {
-    if !bytes[0].is_ascii_digit() {
-        return false;
-    }
-    if bytes[0] != b'0' {
-        return true;
-    }
-    !bytes[1].is_ascii_digit()
+    u32::from(byte).wrapping_sub(48)
 }
 
-// The run of digits at the front, whose first byte is a digit, where it is short.
+// The value with one digit more.
 #[inline(always)]
-fn short_run(bytes: &[u8]) -> Option<Run>
-    requires some { 0 < length (take_while is_ascii_digit bytes.now) }
-    requires room { 7 ≤ length bytes.now }
-    ensures len { IfSome result (λ r. r.len ≡ length (take_while is_ascii_digit bytes.now)) }
-    ensures value { IfSome result
-        (λ r. IsSizeOf (digits_value 10 (take_while is_ascii_digit bytes.now)) r.value) }
-    ensures few { IfSome result (λ r. r.len ≤ 6) }
+fn with_digit(value: u32, digit: u32) -> u32
+    requires fits { value < 1000000 }
+    requires digit { digit ≤ 9 }
+    ensures { result ≡ value * 10 + digit }
 {
-    let mut value = u64::from(bytes[0] - b'0');
-    for i in 1..LONG {
-        if !bytes[i].is_ascii_digit() {
-            return Some(Run { len: i, value });
+    value * 10 + digit
+}
+
+// The digits at the front, the first of which is not 0, as a short number.
+#[inline(always)]
+fn short_run(bytes: &[u8]) -> Option<Short>
+    requires room { 7 ≤ length bytes.now }
+    requires low { 48 < get_or bytes.now 0 0 }
+    requires high { get_or bytes.now 0 0 ≤ 57 }
+    ensures { IfSome result (λ s. IsShortNumber bytes.now s.len s.value) }
+{
+    let mut value = u32::from(bytes[0]) - u32::from(b'0');
+    for len in 1..LONG {
+        let digit = digit_value(bytes[len]);
+        if digit > 9 {
+            return Some(Short { value, len });
         }
-        value = next_value(value, bytes[i]);
+        value = with_digit(value, digit);
     }
     None
 }
 
-/// Reads a short number at the front of bytes. It looks at seven of them at most.
+/// Reads a short number at the front of bytes, and of several digits the first is not 0. It looks at seven bytes at most.
 ///
-/// A number that it answers is spelled in the one way that `read_number` reads. It may answer none where that call
-/// answers a number.
+/// Whether a number ends there is for its reader to see, in the byte behind it: behind 0 a digit may stand. It may answer none where
+/// `read_number` answers a number.
 #[inline(always)]
 pub fn read_short(bytes: &[u8]) -> Option<Short>
     requires { 7 ≤ length bytes.now }
     ensures { IfSome result (λ s. IsShortNumber bytes.now s.len s.value) }
 {
-    if !begins_number(bytes) {
-        return None;
+    let first = bytes[0];
+    if first > b'0' && first <= b'9' {
+        return short_run(bytes);
     }
-    match short_run(bytes) {
-        Some(run) => {
-            if run.value <= MOST {
-                Some(Short {
-                    value: run.value as u32,
-                    len: run.len,
-                })
-            } else {
-                None
-            }
-        }
-        None => None,
+    if first == b'0' {
+        return Some(Short { value: 0, len: 1 });
     }
+    None
 }

@@ -1,9 +1,6 @@
 use Rattle.std.proofs.Common.{arith}
-use Rattle.shape_desk.proofs.Numbers.{short_number}
+use Rattle.shape_desk.proofs.ShortDigits.{short_zero}
 use Rattle.shape_desk.proofs.short.read_short.Goals as goal
 
-pub returns-then-run-le-MOST : goal.returns-then-run-le-MOST
-returns-then-run-le-MOST c =
-    let run = c.in-Some.ensures in
-    let number = c.in-Some.run' in
-    short_number c.args.bytes.now number.len number.value (c.begins_number.ensures c.if-not-begins_number.false) run.len run.value run.few (omega arith)
+pub returns-then-first-eq48 : goal.returns-then-first-eq48
+returns-then-first-eq48 c = short_zero c.args.bytes.now (omega (arith, c.requires)) c.if-first-eq48.true

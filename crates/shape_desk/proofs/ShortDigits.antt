@@ -1,5 +1,5 @@
 -- Digits at the front of bytes, and the number that they spell.
--- Laws of bytes and numbers; how many digits are short is told in `shape_desk`.
+-- Laws of bytes and numbers.
 use Rattle.std.proofs.Common.{◌≡◌, ◌≤◌, ◌<◌, ◌+◌, ◌*◌, ◌/◌, ◌%◌, ◌^◌, ℕ, suc, List, [], ◌∷◌, ◌++◌, length, take, get_or, sym, ap, ◌∙◌, arith}
 use Rattle.std.specs.Fmt.{decimal}
 use Rattle.std.proofs.Math.Nat.{pow-le-pow_right}
