@@ -14,6 +14,7 @@ pub mod Deciding
 pub mod Adding
 pub mod Extending
 pub mod Longer
+pub mod ToldSame
 pub mod Spreading
 pub mod Sorting
 pub mod Refusing

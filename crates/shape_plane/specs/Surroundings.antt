@@ -6,10 +6,13 @@ use Rattle.shape_terms.specs.Pictures.{Picture, at}
 use Rattle.shape_terms.specs.Adjacency.{near_point}
 use Rattle.shape_adj.specs.NearMasks.{In}
 
--- i is the raster number of the point p in the box, which holds its n near neighbours, and so many distances are known
-pub record IsInner (n : ℕ) (sides gaps : List ℕ) (p : Point) (i : ℕ) : Type 0 where
+-- i is the raster number of the point p of the box
+pub record IsNumberOf (sides : List ℕ) (p : Point) (i : ℕ) : Type 0 where
   pub bounded : i < box_count sides
   pub is : raster_point sides i ≡ p
+
+-- the box holds the n near neighbours of the point p, and so many distances are known
+pub record IsInner (n : ℕ) (sides gaps : List ℕ) (p : Point) : Type 0 where
   pub inside : (k : ℕ) → k < n → IsTrue (in_box sides (near_point p k))
   pub known : n ≤ length gaps
 

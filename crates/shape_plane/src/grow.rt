@@ -180,7 +180,7 @@ pub fn grow<P: Pairing>(
     left.is_picture();
     let mut growing = Growing::first(alloc, p, axis)?;
     left.clear(p);
-    let mut refused = Refusals::new(alloc);
+    let mut refused = Refusals::new(alloc)?;
     let mut why = nothing();
     let mut k = 0;
     while k < growing.len() {

@@ -20,6 +20,9 @@ pub struct Refused<P> {
     pub count: u32,
 }
 
+// For how many refused points there is room from the start.
+const FEW: usize = 16;
+
 /// The refused points of a patch.
 #[derive(Drop)]
 pub struct Refusals<P: Point> {
@@ -37,12 +40,11 @@ impl<P: Point> Model for Refusals<P> {
 
 impl<P: Point> Refusals<P> {
     /// None.
-    pub fn new(alloc: Global) -> Self
-        ensures { result ≡ [] }
+    pub fn new(alloc: Global) -> Result<Self, NoMemory>
+        ensures { IfOk result (λ r. r ≡ []) }
     {
-        Refusals {
-            items: Vec::new(alloc),
-        }
+        let items = Vec::with_capacity(alloc, FEW)?;
+        Ok(Refusals { items })
     }
 
     /// Puts a refused point last.

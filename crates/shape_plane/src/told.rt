@@ -39,6 +39,9 @@ fn told_shares(from: u32, to: u32, shares: &Shares) -> Shares
 pub fn told_anew(from: u32, to: u32, why: &Refutation) -> Refutation
     ensures { refutation_of result ≡ anew from to (refutation_of why.now) }
 {
+    if from == to {
+        return *why;
+    }
     Refutation {
         low: told_shares(from, to, &why.low),
         high: told_shares(from, to, &why.high),

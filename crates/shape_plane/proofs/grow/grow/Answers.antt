@@ -11,7 +11,7 @@ first-requires-clause-inside g c =
 
 pub loop-k-init : goal.loop-k-init
 loop-k-init g c =
-    rw c.new-refused.ensures
+    rw c.in_ok-refused.ensures
     (going_first g.P.Point.DIM g.P.Pairing.NEAR_COUNT c.args.axis c.args.left.now c.args.tried.now (g.P.Point.coords c.args.p) c.in_ok-growing.growing
     c.clear.new.self c.is_picture.ensures.picture c.requires.left c.in_ok-growing.ensures.axis c.in_ok-growing.ensures.points c.clear.ensures
     c.requires.sides c.requires.none)

@@ -1,5 +1,6 @@
-use Rattle.std.proofs.Common.{ℕ, ◌<◌, sym, subst, ◌∙◌}
-use Rattle.std.specs.Prelude.{Contains}
+use Rattle.std.proofs.Common.{ℕ, List, ◌<◌, sym, subst, ◌∙◌}
+use Rattle.std.specs.Prelude.{Contains, IsTrue}
+use Rattle.shape_terms.specs.Points.{in_box}
 use Rattle.shape_terms.specs.Adjacency.{near_point}
 use Rattle.shape_plane.specs.Trials.{spread_of, IsSettled, IsSpreading}
 use Rattle.shape_plane.proofs.Going.{going_more, going_in_box}
@@ -7,10 +8,17 @@ use Rattle.shape_plane.proofs.Spreading.{got}
 use Rattle.shape_plane.proofs.Neighbours.{within_sides}
 use Rattle.shape_plane.proofs.grow.spread_from.Goals as goal
 
-pub new-around-requires : goal.new-around-requires
-new-around-requires g c =
+pub new-around-requires-clause-within : goal.new-around-requires-clause-within
+new-around-requires-clause-within g c =
     let w = c.requires.going in
     within_sides g.P.Point.MAX_SIDE c.args.left.now.sides (g.P.Point.coords c.point.result) c.is_picture.ensures.in_range
+    (going_in_box g.P.Point.DIM g.P.Pairing.NEAR_COUNT w.0 w.1 w.2 c.args.k c.args.growing.now c.args.left.now c.args.tried.now c.args.refused.now c.args.k
+    (g.P.Point.coords c.point.result) w.3 c.point.ensures)
+
+pub new-around-requires-clause-inside : goal.new-around-requires-clause-inside
+new-around-requires-clause-inside g c =
+    let w = c.requires.going in
+    subst (λ (s : List ℕ). IsTrue (in_box s (g.P.Point.coords c.point.result))) (sym c.requires.near)
     (going_in_box g.P.Point.DIM g.P.Pairing.NEAR_COUNT w.0 w.1 w.2 c.args.k c.args.growing.now c.args.left.now c.args.tried.now c.args.refused.now c.args.k
     (g.P.Point.coords c.point.result) w.3 c.point.ensures)
 
