@@ -1,12 +1,12 @@
--- Exposed points by tests.
+-- Exposed points of a face as a list.
 -- Laws over pictures and points.
-use Rattle.std.proofs.Common.{◌≡◌, ℕ, zero, suc, ◌<◌, Bool, true, false, ap, sym, ◌∙◌, refl, subst, arith, inl, inr, List, [], ◌∷◌, map}
-use Rattle.std.specs.Prelude.{◌↔◌, IsTrue, not, filter, Contains, ℤ, pos, negsuc, ◌+ℤ◌}
+use Rattle.std.proofs.Common.{◌≡◌, ℕ, Bool, true, false, ap, sym, ◌∙◌, refl, subst, arith, inl, inr, List, [], ◌∷◌, map}
+use Rattle.std.specs.Prelude.{IsTrue, not, filter, Contains, pos, negsuc}
 use Rattle.std.proofs.lemmas.Int.{ints}
 use Rattle.std.proofs.lemmas.Bool.{cond-true, cond-false, cases_Bool, and_parts}
 use Rattle.shape_terms.specs.Limits.{most_solid, most_coordinate}
 use Rattle.shape_terms.specs.Points.{Point, AreSides, sides_of, in_box, box_points, raster_number}
-use Rattle.shape_terms.specs.Adjacency.{moved, side_point}
+use Rattle.shape_terms.specs.Adjacency.{moved}
 use Rattle.shape_terms.specs.Pictures.{Picture, at, object_points}
 use Rattle.shape_terms.specs.FramedBox.{IsWithin}
 use Rattle.shape_terms.proofs.FramedBoxes.{box_point_within}
@@ -48,19 +48,6 @@ pub near_within : (X : Picture) (p : Point) → AreSides (pos most_solid) (map p
     → IsWithin (negsuc 1) (pos most_coordinate) p
 near_within X p range inside = box_within (map pos X.sides) p range (subst (λ s. IsTrue (in_box s p)) (sym (sides_back X.sides)) inside)
 
-zero_right : (n : ℤ) → n +ℤ pos 0 ≡ n
-zero_right n = omega (arith, ints)
-
--- the neighbour of a point over a face is its side neighbour with the face's number
-pub side_face : (x y z : ℤ) (f : ℕ) → f < 6 → side_point (x ∷ y ∷ z ∷ []) f ≡ moved (x ∷ y ∷ z ∷ []) (sense_step (face_axis f) (face_sense f))
-side_face x y z zero h = λ i. (x +ℤ negsuc 0) ∷ zero_right y i ∷ zero_right z i ∷ []
-side_face x y z (suc zero) h = λ i. (x +ℤ pos 1) ∷ zero_right y i ∷ zero_right z i ∷ []
-side_face x y z (suc (suc zero)) h = λ i. (x +ℤ pos 0) ∷ (y +ℤ negsuc 0) ∷ zero_right z i ∷ []
-side_face x y z (suc (suc (suc zero))) h = λ i. (x +ℤ pos 0) ∷ (y +ℤ pos 1) ∷ zero_right z i ∷ []
-side_face x y z (suc (suc (suc (suc zero)))) h = refl
-side_face x y z (suc (suc (suc (suc (suc zero))))) h = refl
-side_face x y z (suc (suc (suc (suc (suc (suc f)))))) h = absurd (omega arith)
-
 -- an object point is listed
 pub object_there : (X : Picture) (p : Point) → at X p ≡ true → Contains (object_points X) p
 object_there X p e =
@@ -90,9 +77,3 @@ module _ (X : Picture) (face : ℕ) where
 
   pub exposed_in : (p : Point) → Contains (exposed_at X face) p → IsTrue (in_box X.sides p)
   exposed_in p c = in_of_at X p (exposed_only p c).0
-
-  -- the answer of the two tests
-  pub exposed_tests : (p q : Point) (b c : Bool) → b ≡ at X p → b ≡ true → c ≡ at X q → q ≡ moved p (sense_step (face_axis face) (face_sense face))
-      → IsTrue (not c) ↔ Contains (exposed_at X face) p
-  exposed_tests p q b true d t e n = ((λ f. cc), λ h. (let r = (exposed_only p h).1 in let k : at X q ≡ false = ap (at X) n ∙ r in cc))
-  exposed_tests p q b false d t e n = ((λ f. exposed_yes p (sym d ∙ t) (ap (at X) (sym n) ∙ sym e)), λ h. refl)

@@ -1,6 +1,6 @@
 -- The points of contours are few, so contours have few lines.
 -- How few points they have stands in `ContourRoom` of the terms; how lines are counted down stands in `CoverStandings`.
-use Rattle.std.proofs.Common.{◌≡◌, ℕ, ◌<◌, ◌≤◌, ◌^◌, List, [], ◌∷◌, length, arith}
+use Rattle.std.proofs.Common.{ℕ, ◌<◌, ◌≤◌, ◌^◌, List, [], ◌∷◌, length, arith}
 use Rattle.std.specs.Prelude.{None, slice_index_or}
 use Rattle.std.proofs.lemmas.List.Sums.{sum_by-cons}
 use Rattle.shape_terms.specs.Limits.{most_pixels}

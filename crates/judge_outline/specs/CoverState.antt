@@ -6,7 +6,7 @@ use Rattle.shape_terms.specs.Pictures.{Picture}
 use Rattle.shape_terms.specs.Traces.{Contour, AreContours, points_in}
 use Rattle.std.specs.Option.{option_map}
 use Rattle.shape_terms.specs.Limits.{most_round}
-use Rattle.shape_terms.specs.Covers.{Stretch, arc}
+use Rattle.shape_terms.specs.Covers.{arc}
 use Rattle.shape_terms.specs.Naive.{IsNaiveFor}
 use Rattle.report_terms.specs.Lines.{Line}
 use Rattle.shape_refute.specs.declared.places.Places.{Places}

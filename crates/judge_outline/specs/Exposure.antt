@@ -1,6 +1,6 @@
 -- The exposed points of the six faces by number, and the points of them that are left and that touch a patch.
 -- What a judge keeps of them stands in `PlaneState`.
-use Rattle.std.specs.Prelude.{◌≡◌, ◌↔◌, ℕ, ◌+◌, ◌<◌, IsTrue, List, length, map, take, slice_index, Contains}
+use Rattle.std.specs.Prelude.{◌↔◌, ℕ, ◌+◌, ◌<◌, IsTrue, List, length, map, take, slice_index, Contains}
 use Rattle.shape_terms.specs.Points.{Point, box_count, raster_number, raster_point}
 use Rattle.shape_terms.specs.Adjacency.{Near}
 use Rattle.shape_terms.specs.Pictures.{Picture, at}
@@ -16,11 +16,6 @@ exposed_at X face = exposed_points X (face_axis face) (face_sense face)
 pub record IsLeft (exposed taken : List Point) (q : Point) : Type 0 where
   pub there : Contains exposed q
   pub left : Contains taken q → ⊥
-
--- of the points with smaller raster numbers, exactly those that are exposed in the face are object points of this picture of the same box
-pub record AreExposedBelow (X : Picture) (face n : ℕ) (exposed : Picture) : Type 0 where
-  pub sides : exposed.sides ≡ X.sides
-  pub each : (k : ℕ) → k < n → k < box_count X.sides → IsTrue (at exposed (raster_point X.sides k)) ↔ Contains (exposed_at X face) (raster_point X.sides k)
 
 -- the object points of the picture are the points that are left
 pub record AreLeft (exposed taken : List Point) (left : Picture) : Type 0 where

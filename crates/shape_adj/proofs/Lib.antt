@@ -15,3 +15,8 @@ pub mod Inner
 mod GapSteps
 pub mod MaskBits
 pub mod CubeRows
+mod LowestBits
+mod WordsFrom
+mod Gaining
+mod Layers
+mod ShownFaces

@@ -7,3 +7,4 @@ pub mod Gaps
 pub mod NearMasks
 pub mod Todo
 pub mod Rows
+pub mod FacePoints

@@ -4,6 +4,7 @@
 
 mod answers;
 mod count;
+mod exposed;
 mod flood;
 mod framed;
 mod near;
@@ -17,6 +18,7 @@ mod solid;
 mod store;
 
 pub use answers::{Labels, Parts};
+pub use exposed::expose;
 pub use framed::end_in_row;
 pub use near::NearNumbers;
 pub use number::{is_inner, near_number};

@@ -25,7 +25,6 @@ pub mod Partings
 pub mod Unmarks
 pub mod Passing
 pub mod Parted
-pub mod Layers
 pub mod Exposing
 pub mod Tries
 pub mod Axes

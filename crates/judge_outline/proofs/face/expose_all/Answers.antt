@@ -1,14 +1,15 @@
-use Rattle.std.proofs.Common.{ap, arith}
-use Rattle.shape_terms.specs.Points.{box_count}
-use Rattle.judge_outline.proofs.LeftPoints.{exposed_all}
+use Rattle.std.proofs.Common.{◌∙◌, ◌%◌, ℕ, ap}
+use Rattle.std.specs.Prelude.{◌==◌}
+use Rattle.shape_terms.specs.Patches.{Sense}
+use Rattle.report_terms.specs.FaceFacts.{face_axis}
+use Rattle.shape_adj.specs.FacePoints.{sense_up, exposed_at}
+use Rattle.judge_outline.proofs.LeftPoints.{exposed_all, face_up}
 use Rattle.judge_outline.proofs.face.expose_all.Goals as goal
 
-pub loop-i-init : goal.loop-i-init
-loop-i-init c = record { sides = c.requires.box_; each = λ k l b. absurd (omega arith) }
-
-pub returns-clause-box_ : goal.returns-clause-box_
-returns-clause-box_ c = c.loop-i.invariant.sides
-
 pub returns-clause-points : goal.returns-clause-points
-returns-clause-points c = exposed_all c.args.grid.now c.args.face c.loop-i.i c.loop-i.exposed c.loop-i.invariant
-    (omega (arith, c.loop-i-test.false, c.count-i-end.ensures.value, ap box_count c.sides-sides.ensures.value))
+returns-clause-points c =
+    let X = c.args.grid.now in
+    let f = c.args.face in
+    exposed_all X f c.expose.new.exposed c.expose.ensures.box_
+    (λ q. c.expose.ensures.points q ∙ ap (λ (t : ℕ). exposed_at X t (sense_up (f % 2 == 1)) q) c.axis_of.ensures.value
+    ∙ ap (λ (s : Sense). exposed_at X (face_axis f) s q) (face_up f))

@@ -1,4 +1,4 @@
-use Rattle.std.proofs.Common.{◌<◌, ◌≤◌, ◌+◌, ◌-◌, slice_index_or, length, ap, rules, arith}
+use Rattle.std.proofs.Common.{◌<◌, ◌≤◌, ◌+◌, ◌-◌, slice_index_or, length, ap, rules}
 use Rattle.std.proofs.lemmas.Option.{slice_get_within}
 use Rattle.shape_crack.specs.Terms.{crack_of}
 use Rattle.report_terms.specs.ContourLines.{no_contour}

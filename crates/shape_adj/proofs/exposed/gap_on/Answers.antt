@@ -1,9 +1,9 @@
 use Rattle.std.proofs.Common.{◌≡◌, ◌+◌, ℕ, arith, rules, subst, sym, FitsSigned, w32}
 use Rattle.std.proofs.lemmas.Int.{to_z-of_z}
 use Rattle.shape_terms.specs.Points.{sides_of}
-use Rattle.shape_plane.specs.Faces.{gap_of}
-use Rattle.shape_plane.proofs.Layers.{gap_first, gap_step, gap_some, gap_most}
-use Rattle.shape_plane.proofs.face.gap_on.Goals as goal
+use Rattle.shape_adj.specs.FacePoints.{gap_of}
+use Rattle.shape_adj.proofs.Layers.{gap_first, gap_step, gap_some, gap_most}
+use Rattle.shape_adj.proofs.exposed.gap_on.Goals as goal
 
 pub loop-k-init : goal.loop-k-init
 loop-k-init g c = sym (gap_first (sides_of (g.P.Point.coords c.args.sides.now.lengths)))

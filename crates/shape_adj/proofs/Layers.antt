@@ -12,7 +12,7 @@ use Rattle.std.proofs.lemmas.List.{length-map}
 use Rattle.shape_terms.specs.Points.{Point, coordinate, sides_of, in_box, box_count, raster_point}
 use Rattle.shape_terms.specs.Adjacency.{moved, along}
 use Rattle.shape_terms.proofs.Boxes.{some_side, in_box_first, mod_of, div_of}
-use Rattle.shape_plane.specs.Faces.{gap_of}
+use Rattle.shape_adj.specs.FacePoints.{gap_of}
 
 unmoved : (p : Point) → moved p [] ≡ p
 unmoved [] = refl
