@@ -74,12 +74,12 @@ module _ (word first : ℕ) where
     ]),
     λ h. elim h [
       | inl a ↦ (
-          a.0,
-          a.1,
-          a.2,
-          less_same rest small more a.0
-              (λ e. (let t = lowest_in rest small more in let z = a.3 in let f = ap (bit_at rest) e in omega (arith, t, z, f))) ∙ a.3,
-        )
+        a.0,
+        a.1,
+        a.2,
+        less_same rest small more a.0
+            (λ e. (let t = lowest_in rest small more in let z = a.3 in let f = ap (bit_at rest) e in omega (arith, t, z, f))) ∙ a.3,
+      )
       | inr e ↦ (count_trailing_zeros 64 rest, e, part (count_trailing_zeros 64 rest) (lowest_in rest small more), lowest_gone rest small more)
     ],
   )

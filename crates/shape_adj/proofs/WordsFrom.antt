@@ -25,8 +25,7 @@ module _ (values : List Bool) (i low high : ℕ) (a : AreOfWord values (i / 64) 
       let s = shr_bit low (i % 64) k in
       let e : i % 64 + k ≡ k = omega (arith, z) in
       let same : bit_at (low / 2 ^ (i % 64)) k ≡ bit_at low k = s ∙ ap (bit_at low) e in
-      let there : 64 * (i / 64) + k ≡ i + k = omega (arith, z) in
-      (
+      let there : 64 * (i / 64) + k ≡ i + k = omega (arith, z) in (
         (λ t. let b = (a k).0 (sym same ∙ t) in (b.0, subst (λ j. get_or values j false ≡ true) there b.1)),
         λ h. same ∙ (a k).1 (h.0, subst (λ j. get_or values j false ≡ true) (sym there) h.1),
       )
@@ -42,8 +41,7 @@ module _ (values : List Bool) (i low high : ℕ) (a : AreOfWord values (i / 64) 
         | yes l ↦
             let z = shl_bit_low 64 high (64 - i % 64) k (omega (arith, l)) l in
             let same : bit_at (bit_or (low / 2 ^ (i % 64)) (high * 2 ^ (64 - i % 64) % 2 ^ 64)) k ≡ bit_at low (i % 64 + k) = omega (arith, s, o, x, z) in
-            let there : 64 * (i / 64) + (i % 64 + k) ≡ i + k = omega arith in
-            (
+            let there : 64 * (i / 64) + (i % 64 + k) ≡ i + k = omega arith in (
               (λ t. let c = (a (i % 64 + k)).0 (sym same ∙ t) in (omega (arith, l), subst (λ j. get_or values j false ≡ true) there c.1)),
               λ h. same ∙ (a (i % 64 + k)).1 (omega (arith, l, below), subst (λ j. get_or values j false ≡ true) (sym there) h.1),
             )
@@ -58,8 +56,7 @@ module _ (values : List Bool) (i low high : ℕ) (a : AreOfWord values (i / 64) 
                   let y = bit_at-lt high (k - (64 - i % 64)) in
                   let same : bit_at (bit_or (low / 2 ^ (i % 64)) (high * 2 ^ (64 - i % 64) % 2 ^ 64)) k ≡ bit_at high (k - (64 - i % 64)) =
                   omega (arith, s, o, none, z, y) in
-                  let there : 64 * (i / 64 + 1) + (k - (64 - i % 64)) ≡ i + k = omega (arith, l, below) in
-                  (
+                  let there : 64 * (i / 64 + 1) + (k - (64 - i % 64)) ≡ i + k = omega (arith, l, below) in (
                     (λ t. let c = (b (k - (64 - i % 64))).0 (sym same ∙ t) in (n, subst (λ j. get_or values j false ≡ true) there c.1)),
                     λ h. same ∙ (b (k - (64 - i % 64))).1 (omega (arith, n), subst (λ j. get_or values j false ≡ true) (sym there) h.1),
                   )
@@ -81,8 +78,7 @@ open_bits values i j a b small f g k =
     let e = bit_at_and a (bit_not w64 b) k in
     let x = bit_at-lt a k in
     let y = bit_at-lt b k in
-    let u = bit_at-lt (bit_not w64 b) k in
-    (
+    let u = bit_at-lt (bit_not w64 b) k in (
       (λ t.
           let h : bit_at a k ≡ 1 = omega (arith, e, x, u, t) in
           let c = (f k).0 h in
