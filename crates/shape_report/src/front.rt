@@ -1,6 +1,6 @@
 //! Reading a short line of one of the kinds of which reports have most lines, where it stands among bytes that follow.
 //! What is not read here `read` reads, so a further kind is a matter of speed alone.
-ghost use Rattle.std.specs.Prelude.{◌≡◌, ◌≤◌, ◌<◌, ◌+◌, ◌*◌, IsTrue, length, take, get_or, IfSome};
+ghost use Rattle.std.specs.Prelude.{◌≡◌, ◌≤◌, ◌<◌, ◌+◌, IsTrue, length, take, get_or, IfSome};
 ghost use Rattle.text_terms.specs.Fields.{point};
 ghost use Rattle.report_terms.specs.Kinds.{Kind, first_word};
 ghost use Rattle.report_text.specs.Front.{StandsAt};
@@ -279,51 +279,6 @@ fn off<P: Point>(bytes: &[u8], line: &mut Line<P>) -> Option<usize>
     Some(why.end)
 }
 
-// Four bytes as one number, of which the first is the least part.
-#[inline(always)]
-fn as_one(first: u8, second: u8, third: u8, fourth: u8) -> u32
-    ensures { result ≡ first + second * 256 + third * 65536 + fourth * 16777216 }
-{
-    u32::from(first)
-        + u32::from(second) * 256
-        + u32::from(third) * 65_536
-        + u32::from(fourth) * 16_777_216
-}
-
-// Whether four bytes are the word `near`, by one look at them.
-#[inline(always)]
-fn is_near(first: u8, second: u8, third: u8, fourth: u8) -> bool
-    ensures { IsTrue result → (first ≡ 110) × (second ≡ 101) × (third ≡ 97) × (fourth ≡ 114) }
-{
-    as_one(first, second, third, fourth) == as_one(b'n', b'e', b'a', b'r')
-}
-
-// Whether four bytes are the word `del` and a blank, by one look at them.
-#[inline(always)]
-fn is_del(first: u8, second: u8, third: u8, fourth: u8) -> bool
-    ensures { IsTrue result → (first ≡ 100) × (second ≡ 101) × (third ≡ 108) × (fourth ≡ 32) }
-{
-    as_one(first, second, third, fourth) == as_one(b'd', b'e', b'l', b' ')
-}
-
-// Reads a line of a kind of which few reports have most lines.
-#[inline(always)]
-fn rarer<P: Point>(bytes: &[u8], line: &mut Line<P>) -> Option<usize>
-    requires { 64 ≤ length bytes.now }
-    ensures { IfSome result (λ n. IsFront P.DIM bytes.now n (line_of P.coords line.new)) }
-{
-    match bytes {
-        [b'a', b't', ..] => at(bytes, line),
-        [b'o', b'n', ..] => on(bytes, line),
-        [b'o', b'f', b'f', ..] => off(bytes, line),
-        [b's', b'e', b'g', ..] => seg(bytes, line),
-        [b'l', b'e', b'a', b's', b't', ..] => least(bytes, line),
-        [b't', b'u', b'r', b'n', ..] => turn(bytes, line),
-        [b'c', b'u', b't', ..] => cut(bytes, line),
-        _ => None,
-    }
-}
-
 /// Reads a short line that stands with its LF at the front of bytes, into a place, and answers how many bytes it has.
 ///
 /// A line that it answers is one of the reports of pictures whose points are of type `P`, and stands in the place. It may
@@ -336,11 +291,16 @@ pub fn read_front<P: Point>(bytes: &[u8], line: &mut Line<P>) -> Option<usize>
     if bytes.len() < WINDOW {
         return None;
     }
-    if is_near(bytes[0], bytes[1], bytes[2], bytes[3]) {
-        return near(bytes, line);
+    match bytes {
+        [b'n', b'e', b'a', b'r', ..] => near(bytes, line),
+        [b'd', b'e', b'l', ..] => del(bytes, line),
+        [b'a', b't', ..] => at(bytes, line),
+        [b'o', b'n', ..] => on(bytes, line),
+        [b'o', b'f', b'f', ..] => off(bytes, line),
+        [b's', b'e', b'g', ..] => seg(bytes, line),
+        [b'l', b'e', b'a', b's', b't', ..] => least(bytes, line),
+        [b't', b'u', b'r', b'n', ..] => turn(bytes, line),
+        [b'c', b'u', b't', ..] => cut(bytes, line),
+        _ => None,
     }
-    if is_del(bytes[0], bytes[1], bytes[2], bytes[3]) {
-        return del(bytes, line);
-    }
-    rarer(bytes, line)
 }
