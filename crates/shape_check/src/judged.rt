@@ -35,6 +35,7 @@ impl<P: Point, R: Row<P>> ReportJudge<Line<P>> for Judged<'_, R> {
         × ((EndRule-box k.rule.now).means k.rule.now.value
         ≡ (EndRule-box j.rule.now).means j.rule.now.value) };
 
+    #[inline(always)]
     fn take(&mut self, line: &Line<P>) -> Result<bool, NoMemory> {
         self.row.take(line, &mut **self.rule)
     }
