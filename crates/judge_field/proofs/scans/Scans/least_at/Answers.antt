@@ -31,13 +31,13 @@ returns g c =
     let X = c.self.inside.grid in
     let cells = c.self.inside.squares.values in
     λ p here same.
-        let there : IsTrue (at X p) = subst (λ Y. IsTrue (at Y p)) (sym c.self.view_is) here in
-        let inside = (and_parts _ _ there).0 in
-        let i : c.args.place ≡ framed_number X.sides p = subst (λ Y. c.args.place ≡ framed_number Y.sides p) (sym c.self.view_is) same in
-        let read : found square_keeping cells c.args.place ≡ c.get.result =
-        get_or_from_slice_get cells c.args.place c.get.result (nothing square_keeping) c.get.ensures in
-        let near = cell_of square_keeping X p cells c.args.place inside i c.self.invariant.1 in
-        let t : IsNearestOn square_keeping X (box_count (framed_sides X.sides)) (framed_number X.sides p) c.get.result =
-        subst (IsNearestOn square_keeping X (box_count (framed_sides X.sides)) (framed_number X.sides p)) read near in
-        subst (λ Y. IsLeastSquare Y p c.get.result) c.self.view_is
-        (record { q = framed_point X.sides t.q; least = nearest_of_all square_keeping X p c.get.result inside t })
+    let there : IsTrue (at X p) = subst (λ Y. IsTrue (at Y p)) (sym c.self.view_is) here in
+    let inside = (and_parts _ _ there).0 in
+    let i : c.args.place ≡ framed_number X.sides p = subst (λ Y. c.args.place ≡ framed_number Y.sides p) (sym c.self.view_is) same in
+    let read : found square_keeping cells c.args.place ≡ c.get.result =
+    get_or_from_slice_get cells c.args.place c.get.result (nothing square_keeping) c.get.ensures in
+    let near = cell_of square_keeping X p cells c.args.place inside i c.self.invariant.1 in
+    let t : IsNearestOn square_keeping X (box_count (framed_sides X.sides)) (framed_number X.sides p) c.get.result =
+    subst (IsNearestOn square_keeping X (box_count (framed_sides X.sides)) (framed_number X.sides p)) read near in
+    subst (λ Y. IsLeastSquare Y p c.get.result) c.self.view_is
+    (record { q = framed_point X.sides t.q; least = nearest_of_all square_keeping X p c.get.result inside t })
